@@ -1,0 +1,3 @@
+pub mod Enclose
+pub mod Exist
+pub mod Law

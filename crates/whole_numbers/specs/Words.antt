@@ -1,0 +1,77 @@
+-- Words: intervals of whole numbers, and the fractions that they hold.
+use Rattle.std.specs.Prelude.{ℕ, ℤ, pos, negsuc, ◌+ℤ◌, ◌-ℤ◌, ◌*ℤ◌, neg_ℤ, ◌≤ℤ◌, ◌+◌, ◌/◌, ◌%◌, ◌^◌, min, max, unsigned_abs}
+use Rattle.std.specs.Int.{int_min, int_max}
+use Rattle.std.specs.Prelude.{◌≡◌}
+use Rattle.whole_numbers.specs.Sum.{sum_to}
+
+pub record Word : Type 0 where
+  pub lo : ℤ
+  pub hi : ℤ
+
+-- w holds the fraction x / q
+pub record Holds (w : Word) (x : ℤ) (q : ℕ) : Type 0 where
+  pub above : (w.lo *ℤ pos q) ≤ℤ x
+  pub below : x ≤ℤ (w.hi *ℤ pos q)
+
+abbrev pub point_word : ℤ → Word
+point_word v = record { lo = v; hi = v }
+
+abbrev pub word_add : Word → Word → Word
+word_add w v = record { lo = w.lo +ℤ v.lo; hi = w.hi +ℤ v.hi }
+
+abbrev pub word_sub : Word → Word → Word
+word_sub w v = record { lo = w.lo -ℤ v.hi; hi = w.hi -ℤ v.lo }
+
+-- the products of k and what w holds
+abbrev pub word_scale : ℤ → Word → Word
+word_scale (pos k) w = record { lo = pos k *ℤ w.lo; hi = pos k *ℤ w.hi }
+word_scale (negsuc k) w = record { lo = negsuc k *ℤ w.hi; hi = negsuc k *ℤ w.lo }
+
+-- the sum of f k over the k below n
+abbrev pub sum_words : ℕ → (ℕ → Word) → Word
+sum_words n f = record { lo = sum_to n (λ k. (f k).lo); hi = sum_to n (λ k. (f k).hi) }
+
+-- the greater size of the ends
+abbrev pub size : Word → ℕ
+size w = max (unsigned_abs w.lo) (unsigned_abs w.hi)
+
+-- z / m rounded down, for m above 0
+abbrev pub floor_over : ℤ → ℕ → ℤ
+floor_over (pos a) m = pos (a / m)
+floor_over (negsuc a) m = negsuc (a / m)
+
+abbrev pub ceil_over : ℤ → ℕ → ℤ
+ceil_over z m = neg_ℤ (floor_over (neg_ℤ z) m)
+
+-- a / m rounded up
+abbrev pub up_over : ℕ → ℕ → ℕ
+up_over a m = a / m + min 1 (a % m)
+
+-- floor and ceiling over 2^h
+abbrev pub word_shift : ℕ → Word → Word
+word_shift h w = record { lo = floor_over w.lo (2 ^ h); hi = ceil_over w.hi (2 ^ h) }
+
+-- the least and the greatest of four
+unfoldable pub least_of : ℤ → ℤ → ℤ → ℤ → ℤ
+least_of a b c d = int_min (int_min a b) (int_min c d)
+
+unfoldable pub greatest_of : ℤ → ℤ → ℤ → ℤ → ℤ
+greatest_of a b c d = int_max (int_max a b) (int_max c d)
+
+-- the range of the products of what w holds and what v holds
+abbrev pub word_mul : Word → Word → Word
+word_mul w v = record {
+  lo = least_of (w.lo *ℤ v.lo) (w.lo *ℤ v.hi) (w.hi *ℤ v.lo) (w.hi *ℤ v.hi);
+  hi = greatest_of (w.lo *ℤ v.lo) (w.lo *ℤ v.hi) (w.hi *ℤ v.lo) (w.hi *ℤ v.hi);
+}
+
+-- v is in the word
+pub record Within (w : Word) (v : ℤ) : Type 0 where
+  pub above : w.lo ≤ℤ v
+  pub below : v ≤ℤ w.hi
+
+-- p is the least word with each product of a number of w and a number of v
+pub record IsProductRange (w v p : Word) : Type 0 where
+  pub contains : (x y : ℤ) → Within w x → Within v y → Within p (x *ℤ y)
+  pub least : (x : ℤ) × (y : ℤ) × (Within w x × Within v y × (p.lo ≡ x *ℤ y))
+  pub greatest : (x : ℤ) × (y : ℤ) × (Within w x × Within v y × (p.hi ≡ x *ℤ y))
