@@ -1,14 +1,19 @@
-// Intervals of whole numbers, rounded outward.
+//! Intervals of whole numbers of 128 bits. Each call gives the exact range of what it computes from numbers
+//! of its intervals, and where an end is no whole number, the low end is rounded down and the high end up
+//! (outward rounding, as in interval arithmetic: Rump, Verification methods, 2010).
 #![tactic(auto)]
 
-ghost use Rattle.std.specs.Prelude.{◌≡◌, ℕ, ℤ, pos, ◌+ℤ◌, ◌-ℤ◌, ◌*ℤ◌, neg_ℤ, ◌≤ℤ◌, ◌<ℤ◌, ◌≤◌, ◌<◌, ◌*◌, ◌^◌, FitsSigned, unsigned_abs, MatchOption, IsTrue, ◌↔◌, max};
+ghost use Rattle.std.specs.Prelude.{◌≡◌, ℕ, ℤ, pos, negsuc, ◌+ℤ◌, ◌-ℤ◌, ◌*ℤ◌, neg_ℤ, ◌≤ℤ◌, ◌<ℤ◌, ◌≤◌, ◌<◌, ◌*◌, ◌^◌, FitsSigned, unsigned_abs, SomeIff, IsTrue, ◌↔◌, max};
 ghost use Rattle.std.specs.Int.{w128};
-ghost use Rattle.whole_numbers.specs.Words.{Word, Within, point_word, word_add, word_sub, word_scale, word_shift, word_mul, least_of, greatest_of, IsProductRange, size, floor_over};
+ghost use Rattle.whole_numbers.specs.Quotients.{floor_over};
+ghost use Rattle.whole_numbers.specs.Scaling.{word_scale10};
+ghost use Rattle.whole_numbers.specs.Words.{Word, Within, point_word, word_add, word_sub, word_neg, word_scale, word_shift, word_mul, least_of, greatest_of, IsProductRange, size};
 
-use whole_numbers::{product, shift_ceil, shift_floor};
 use std::marker::Model;
+use whole_numbers::{product, scale_ceil, scale_floor, shift_ceil, shift_floor};
 
-#[derive(Clone, Copy)]
+/// The whole numbers from `lo` to `hi`, with `lo <= hi`.
+#[derive(Clone, Copy, PartialEq, Eq, Debug)]
 pub struct Iv {
     lo: i128,
     hi: i128,
@@ -32,18 +37,21 @@ fn made(lo: i128, hi: i128) -> Iv
 }
 
 impl Iv {
+    /// The interval with these ends, and None exactly where they are out of order.
     pub fn new(lo: i128, hi: i128) -> Option<Iv>
-        ensures { MatchOption result (hi <ℤ lo) (λ w. w ≡ record { lo = lo; hi = hi }) }
+        ensures { SomeIff result (lo ≤ℤ hi) (record { lo = lo; hi = hi }) }
     {
         if lo <= hi { Some(Iv { lo, hi }) } else { None }
     }
 
+    /// The interval of one number.
     pub fn point(v: i128) -> Iv
         ensures { result ≡ point_word v }
     {
         Iv { lo: v, hi: v }
     }
 
+    /// The low end.
     pub fn lo(&self) -> i128
         ensures value { result ≡ self.now.lo }
         ensures ordered { result ≤ℤ self.now.hi }
@@ -51,6 +59,7 @@ impl Iv {
         self.lo
     }
 
+    /// The high end.
     pub fn hi(&self) -> i128
         ensures value { result ≡ self.now.hi }
         ensures ordered { self.now.lo ≤ℤ result }
@@ -58,6 +67,7 @@ impl Iv {
         self.hi
     }
 
+    /// The sums of a number of each.
     pub fn add(&self, other: &Iv) -> Iv
         requires lo_fits { FitsSigned w128 (self.now.lo +ℤ other.now.lo) }
         requires hi_fits { FitsSigned w128 (self.now.hi +ℤ other.now.hi) }
@@ -66,6 +76,7 @@ impl Iv {
         made(self.lo() + other.lo(), self.hi() + other.hi())
     }
 
+    /// The differences of a number of this and one of the other.
     pub fn sub(&self, other: &Iv) -> Iv
         requires lo_fits { FitsSigned w128 (self.now.lo -ℤ other.now.hi) }
         requires hi_fits { FitsSigned w128 (self.now.hi -ℤ other.now.lo) }
@@ -74,6 +85,16 @@ impl Iv {
         made(self.lo() - other.hi(), self.hi() - other.lo())
     }
 
+    /// The numbers with the other sign.
+    pub fn neg(&self) -> Iv
+        requires lo_fits { FitsSigned w128 (neg_ℤ self.now.hi) }
+        requires hi_fits { FitsSigned w128 (neg_ℤ self.now.lo) }
+        ensures { result ≡ word_neg self.now }
+    {
+        made(-self.hi(), -self.lo())
+    }
+
+    /// The numbers times `k`.
     #[tactic(auto, using(crate::proofs::Fits::scale_rules))]
     pub fn mul_small(&self, k: i128) -> Iv
         requires { unsigned_abs k * size self.now ≤ 2 ^ 126 }
@@ -84,6 +105,7 @@ impl Iv {
         if 0 <= k { made(a, b) } else { made(b, a) }
     }
 
+    /// The least interval with each product of a number of this and one of the other.
     #[tactic(auto, using(crate::proofs::Fits::mul_rules))]
     pub fn mul(&self, other: &Iv) -> Iv
         requires { size self.now * size other.now ≤ 2 ^ 126 }
@@ -97,18 +119,28 @@ impl Iv {
         made(least(a, b, c, d), greatest(a, b, c, d))
     }
 
+    /// The greater size of the ends.
     pub fn mag(&self) -> u128
         ensures { result ≡ size self.now }
     {
         self.lo.unsigned_abs().max(self.hi.unsigned_abs())
     }
 
+    /// Half the sum of the ends, rounded down.
+    pub fn mid(&self) -> i128
+        ensures { result ≡ floor_over (self.now.lo +ℤ self.now.hi) 2 }
+    {
+        half_sum(self.lo(), self.hi())
+    }
+
+    /// Whether the number is in the interval.
     pub fn holds(&self, v: i128) -> bool
         ensures { IsTrue result ↔ Within self.now v }
     {
         self.lo() <= v && v <= self.hi()
     }
 
+    /// The interval over 2^h, the low end rounded down and the high end up.
     #[tactic(auto, using(crate::proofs::Fits::shift_rules))]
     pub fn shift_out(&self, h: u32) -> Iv
         requires { h ≤ 126 }
@@ -116,6 +148,25 @@ impl Iv {
     {
         made(shift_floor(self.lo(), h), shift_ceil(self.hi(), h))
     }
+
+    /// The interval times 10^k, the low end rounded down and the high end up, and None exactly where an end
+    /// passes 10^37 in size.
+    #[tactic(auto, using(crate::proofs::Fits::scale10_rules))]
+    pub fn scale10(&self, k: i32) -> Option<Iv>
+        ensures { SomeIff result (size (word_scale10 self.now k) ≤ 10 ^ 37) (word_scale10 self.now k) }
+    {
+        let lo = scale_floor(self.lo(), k)?;
+        let hi = scale_ceil(self.hi(), k)?;
+        Some(made(lo, hi))
+    }
+}
+
+// Half the sum, rounded down, by halves: the sum itself may pass 128 bits.
+fn half_sum(a: i128, b: i128) -> i128
+    ensures { result ≡ floor_over (a +ℤ b) 2 }
+{
+    let rest = a.rem_euclid(2) + b.rem_euclid(2);
+    a.div_euclid(2) + b.div_euclid(2) + rest.div_euclid(2)
 }
 
 fn least(a: i128, b: i128, c: i128, d: i128) -> i128
@@ -130,4 +181,28 @@ fn greatest(a: i128, b: i128, c: i128, d: i128) -> i128
     ensures bound { a ≤ℤ result }
 {
     a.max(b).max(c.max(d))
+}
+
+#[cfg(test)]
+mod tests {
+    use super::*;
+    use std::test::Fail;
+
+    #[test]
+    fn each_call_once(rt: HostRuntime) -> Result<(), Fail> {
+        let w = Iv::point(-3).add(&Iv::point(0));
+        let v = Iv::point(7).sub(&Iv::point(2));
+        assert_eq!(rt; Iv::new(-3, 5).map(|w: Iv| w.mid()), Some(1));
+        assert_eq!(rt; Iv::new(5, -3), None);
+        assert_eq!(rt; w.neg(), Iv::point(3));
+        assert_eq!(rt; v.mul_small(-2), Iv::point(-10));
+        assert_eq!(rt; w.mul(&v), Iv::point(-15));
+        assert_eq!(rt; w.mag(), 3);
+        assert!(rt; w.holds(-3));
+        assert_eq!(rt; Some(w.shift_out(1)), Iv::new(-2, -1));
+        assert_eq!(rt; w.scale10(-1), Iv::new(-1, 0));
+        assert_eq!(rt; v.scale10(37), None);
+        assert_eq!(rt; (w.lo(), v.hi()), (-3, 5));
+        Ok(())
+    }
 }

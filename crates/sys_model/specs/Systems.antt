@@ -1,7 +1,8 @@
 -- Systems within words, and the certificate.
 use Rattle.std.specs.Prelude.{ℕ, ℤ, pos, ◌+ℤ◌, ◌-ℤ◌, ◌*ℤ◌, ◌≡◌, ◌≤◌, ◌<◌, ◌*◌, ◌+◌, ◌-◌, ◌^◌, min, unsigned_abs}
 use Rattle.whole_numbers.specs.Sum.{sum_to, total_to, unit}
-use Rattle.whole_numbers.specs.Words.{Word, Holds, point_word, word_sub, word_scale, sum_words, size, up_over, word_shift}
+use Rattle.whole_numbers.specs.Words.{Word, Holds, point_word, word_sub, word_scale, sum_words, size, word_shift}
+use Rattle.whole_numbers.specs.Quotients.{up_over}
 
 -- the sum of row i of a table by a vector
 abbrev pub row_by : ℕ → (ℕ → ℕ → ℤ) → ℕ → (ℕ → ℤ) → ℤ

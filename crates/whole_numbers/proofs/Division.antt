@@ -5,7 +5,7 @@ use Rattle.std.proofs.Common.{unsigned_abs, ◌^◌, zero, suc, FitsSigned}
 use Rattle.std.specs.Int.{Width}
 use Rattle.std.proofs.Math.Nat.{pow-le-pow_right}
 use Rattle.std.proofs.lemmas.Int.{ints}
-use Rattle.whole_numbers.specs.Words.{floor_over, ceil_over}
+use Rattle.whole_numbers.specs.Quotients.{floor_over, ceil_over}
 use Rattle.whole_numbers.proofs.Ring.{ring, less_from_product, le_from_product}
 use Rattle.whole_numbers.proofs.WordLaws.{floor_over_le, lt-floor_over, two_pow_above, le-ceil_over}
 
@@ -23,11 +23,11 @@ ceil_over_is z m f h low high =
     let e = floor_over_is (neg_ℤ z) m (neg_ℤ f) h (simp ring (omega (arith, ints))) (simp ring (omega (arith, ints))) in
     omega (arith, ints, e)
 
-parts : (x : ℤ) (m : ℕ) → 0 < m → int_div_euclid x (pos m) *ℤ pos m +ℤ int_rem_euclid x (pos m) ≡ x
+pub parts : (x : ℤ) (m : ℕ) → 0 < m → int_div_euclid x (pos m) *ℤ pos m +ℤ int_rem_euclid x (pos m) ≡ x
 parts (pos a) m h = omega (arith, ints)
 parts (negsuc a) m h = omega (arith, ints)
 
-rem_range : (x : ℤ) (m : ℕ) → 0 < m → (pos 0 ≤ℤ int_rem_euclid x (pos m)) × (int_rem_euclid x (pos m) <ℤ pos m)
+pub rem_range : (x : ℤ) (m : ℕ) → 0 < m → (pos 0 ≤ℤ int_rem_euclid x (pos m)) × (int_rem_euclid x (pos m) <ℤ pos m)
 rem_range (pos a) m h = omega (arith, ints)
 rem_range (negsuc a) m h = omega (arith, ints)
 

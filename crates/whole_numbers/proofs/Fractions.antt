@@ -3,7 +3,8 @@ use Rattle.std.proofs.Common.{◌≡◌, ℕ, suc, ℤ, pos, negsuc, ◌*ℤ◌,
 use Rattle.std.specs.Int.{int_min, int_max}
 use Rattle.std.proofs.lemmas.Int.{ints, clamps, by_lt_z}
 use Rattle.std.proofs.Math.Nat.{mul-le-mul_left, mul-le-mul_right}
-use Rattle.whole_numbers.specs.Words.{Word, Holds, word_mul, least_of, greatest_of, floor_over}
+use Rattle.whole_numbers.specs.Words.{Word, Holds, word_mul, least_of, greatest_of}
+use Rattle.whole_numbers.specs.Quotients.{floor_over}
 use Rattle.whole_numbers.proofs.Ring.{ring, *ℤ_assoc, mul_mono_pos}
 use Rattle.whole_numbers.proofs.Products.{word_mul_contains}
 

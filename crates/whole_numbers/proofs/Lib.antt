@@ -1,7 +1,9 @@
 pub mod Division
 pub mod Fits
 pub mod Fractions
+pub mod Powers
 pub mod Products
 pub mod Ring
+pub mod Scaled
 pub mod Sums
 pub mod WordLaws

@@ -1,6 +1,5 @@
 -- Laws of whole numbers as a ring with an order.
 use Rattle.std.proofs.Common.{◌<◌, ◌≡◌, ℕ, pos, ◌<ℤ◌, ℤ, ◌+ℤ◌, ◌*ℤ◌, neg_ℤ, ◌≤ℤ◌, arith, ap, ◌∙◌, ◌*◌, ◌+◌}
-use Rattle.std.proofs.Math.IntN.{◌-ℤ◌}
 use Rattle.std.proofs.lemmas.Int.{ints, by_lt_z}
 use Rattle.std.proofs.Math.Nat.{mul-le-mul_right}
 use borrow.Author.Differences.{le_out, up, down, product_is, sum_is_lem, same_in, neg_is}
@@ -37,15 +36,6 @@ pub neg-*ℤ : (a b : ℤ) → neg_ℤ a *ℤ b ≡ neg_ℤ (a *ℤ b)
 neg-*ℤ a b = *ℤ_comm (neg_ℤ a) b ∙ *ℤ-neg b a ∙ ap neg_ℤ (*ℤ_comm b a)
 
 pub ruleset ring = (*ℤ-+ℤ, +ℤ-*ℤ, *ℤ-neg, neg-*ℤ, *ℤ_assoc, *ℤ_left_comm, *ℤ_comm)
-
-pub square : (a b : ℤ) → (a +ℤ b) *ℤ (a -ℤ b) ≡ a *ℤ a -ℤ b *ℤ b
-square a b = simp ring (omega (arith, ints))
-
-pub elim_law : (aij akk aik akj xj s c ck : ℤ) → (aij *ℤ akk -ℤ aik *ℤ akj) *ℤ xj -ℤ (c *ℤ akk -ℤ aik *ℤ ck) *ℤ s ≡ akk *ℤ (aij *ℤ xj -ℤ c *ℤ s) -ℤ aik *ℤ (akj *ℤ xj -ℤ ck *ℤ s)
-elim_law aij akk aik akj xj s c ck = simp ring (omega (arith, ints))
-
-pub le_trans' : (a b c : ℤ) → a ≤ℤ b → b ≤ℤ c → a ≤ℤ c
-le_trans' a b c h k = omega (arith, ints)
 
 -- ---- order
 pub mul_mono_pos : (a b : ℤ) (k : ℕ) → a ≤ℤ b → (a *ℤ pos k) ≤ℤ (b *ℤ pos k)

@@ -6,8 +6,9 @@ use Rattle.std.proofs.lemmas.Grind.{div_ceil_times}
 use Rattle.std.proofs.Math.Nat.{mul-le-mul_left, mul-le-mul_right}
 use borrow.Author.Differences.{le_out}
 use Rattle.whole_numbers.specs.Sum.{sum_to}
-use Rattle.whole_numbers.specs.Words.{Word, Holds, point_word, word_add, word_sub, word_scale, sum_words, size, floor_over, ceil_over, up_over, word_shift}
-use Rattle.whole_numbers.proofs.Ring.{ring, *ℤ_assoc}
+use Rattle.whole_numbers.specs.Words.{Word, Holds, point_word, word_add, word_sub, word_neg, word_scale, sum_words, size, word_shift}
+use Rattle.whole_numbers.specs.Quotients.{floor_over, ceil_over, up_over}
+use Rattle.whole_numbers.proofs.Ring.{ring, *ℤ_assoc, mul_mono_pos}
 
 pub two_pow_above : (h : ℕ) → 0 < 2 ^ h
 two_pow_above zero = omega arith
@@ -28,9 +29,6 @@ pub le-ceil_over : (z : ℤ) (m : ℕ) → 0 < m → z ≤ℤ (ceil_over z m *�
 le-ceil_over z m h = let f = floor_over_le (neg_ℤ z) m h in simp ring (omega (arith, ints))
 
 -- ---- order and products
-pub mul-mono : (a b : ℤ) (k : ℕ) → a ≤ℤ b → (a *ℤ pos k) ≤ℤ (b *ℤ pos k)
-mul-mono a b k h = let p = mul-le-mul_right k (le_out a b h) in omega (arith, ints)
-
 pub mul-mono_left : (a b : ℤ) (k : ℕ) → a ≤ℤ b → (pos k *ℤ a) ≤ℤ (pos k *ℤ b)
 mul-mono_left a b k h = let p = mul-le-mul_left k (le_out a b h) in omega (arith, ints)
 
@@ -42,6 +40,9 @@ holds_add w v x y q h k = record { above = simp ring (omega (arith, ints)); belo
 
 pub holds_sub : (w v : Word) (x y : ℤ) (q : ℕ) → Holds w x q → Holds v y q → Holds (word_sub w v) (x -ℤ y) q
 holds_sub w v x y q h k = record { above = simp ring (omega (arith, ints)); below = simp ring (omega (arith, ints)) }
+
+pub holds_neg : (w : Word) (x : ℤ) (q : ℕ) → Holds w x q → Holds (word_neg w) (neg_ℤ x) q
+holds_neg w x q h = record { above = simp ring (omega (arith, ints)); below = simp ring (omega (arith, ints)) }
 
 pub holds_point : (k : ℤ) (q : ℕ) → Holds (point_word k) (k *ℤ pos q) q
 holds_point k q = record { above = omega (arith, ints); below = omega (arith, ints) }
@@ -68,12 +69,15 @@ holds_size w x q h =
     let rq = mul-le-mul_right q r in
     omega (arith, ints, unsigned_abs-mul w.lo (pos q), unsigned_abs-mul w.hi (pos q), lq, rq)
 
-pub holds_shift : (h : ℕ) (w : Word) (x : ℤ) (q : ℕ) → Holds w x q → Holds (word_shift h w) x (2 ^ h * q)
-holds_shift h w x q k =
-    let p = two_pow_above h in
-    let l = mul-mono _ _ q (floor_over_le w.lo (2 ^ h) p) in
-    let r = mul-mono _ _ q (le-ceil_over w.hi (2 ^ h) p) in
+-- dividing both ends changes the denominator alone
+pub holds_over : (m : ℕ) (w : Word) (x : ℤ) (q : ℕ) → 0 < m → Holds w x q → Holds (record { lo = floor_over w.lo m; hi = ceil_over w.hi m }) x (m * q)
+holds_over m w x q p k =
+    let l = mul_mono_pos _ _ q (floor_over_le w.lo m p) in
+    let r = mul_mono_pos _ _ q (le-ceil_over w.hi m p) in
     record {
-      above = omega (arith, ints, l, *ℤ_assoc (floor_over w.lo (2 ^ h)) (pos (2 ^ h)) (pos q));
-      below = omega (arith, ints, r, *ℤ_assoc (ceil_over w.hi (2 ^ h)) (pos (2 ^ h)) (pos q));
+      above = omega (arith, ints, l, *ℤ_assoc (floor_over w.lo m) (pos m) (pos q));
+      below = omega (arith, ints, r, *ℤ_assoc (ceil_over w.hi m) (pos m) (pos q));
     }
+
+pub holds_shift : (h : ℕ) (w : Word) (x : ℤ) (q : ℕ) → Holds w x q → Holds (word_shift h w) x (2 ^ h * q)
+holds_shift h w x q k = holds_over (2 ^ h) w x q (two_pow_above h) k

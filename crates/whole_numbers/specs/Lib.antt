@@ -1,2 +1,4 @@
+pub mod Quotients
+pub mod Scaling
 pub mod Sum
 pub mod Words

@@ -1,9 +1,10 @@
 -- Words: intervals of whole numbers, and the fractions that they hold.
-use Rattle.std.specs.Prelude.{ℕ, ℤ, pos, negsuc, ◌+ℤ◌, ◌-ℤ◌, ◌*ℤ◌, neg_ℤ, ◌≤ℤ◌, ◌+◌, ◌/◌, ◌%◌, ◌^◌, min, max, unsigned_abs}
+use Rattle.std.specs.Prelude.{◌≡◌, ℕ, ℤ, pos, negsuc, ◌+ℤ◌, ◌-ℤ◌, ◌*ℤ◌, neg_ℤ, ◌≤ℤ◌, ◌^◌, max, unsigned_abs}
 use Rattle.std.specs.Int.{int_min, int_max}
-use Rattle.std.specs.Prelude.{◌≡◌}
 use Rattle.whole_numbers.specs.Sum.{sum_to}
+use Rattle.whole_numbers.specs.Quotients.{floor_over, ceil_over}
 
+-- the whole numbers from lo to hi, and the fractions between them
 pub record Word : Type 0 where
   pub lo : ℤ
   pub hi : ℤ
@@ -13,21 +14,28 @@ pub record Holds (w : Word) (x : ℤ) (q : ℕ) : Type 0 where
   pub above : (w.lo *ℤ pos q) ≤ℤ x
   pub below : x ≤ℤ (w.hi *ℤ pos q)
 
+-- the word of one number
 abbrev pub point_word : ℤ → Word
 point_word v = record { lo = v; hi = v }
 
+-- the sums of what two words hold
 abbrev pub word_add : Word → Word → Word
 word_add w v = record { lo = w.lo +ℤ v.lo; hi = w.hi +ℤ v.hi }
 
+-- the differences of what two words hold
 abbrev pub word_sub : Word → Word → Word
 word_sub w v = record { lo = w.lo -ℤ v.hi; hi = w.hi -ℤ v.lo }
+
+-- what w holds with the other sign
+abbrev pub word_neg : Word → Word
+word_neg w = record { lo = neg_ℤ w.hi; hi = neg_ℤ w.lo }
 
 -- the products of k and what w holds
 abbrev pub word_scale : ℤ → Word → Word
 word_scale (pos k) w = record { lo = pos k *ℤ w.lo; hi = pos k *ℤ w.hi }
 word_scale (negsuc k) w = record { lo = negsuc k *ℤ w.hi; hi = negsuc k *ℤ w.lo }
 
--- the sum of f k over the k below n
+-- the sum of the words f k over the k below n
 abbrev pub sum_words : ℕ → (ℕ → Word) → Word
 sum_words n f = record { lo = sum_to n (λ k. (f k).lo); hi = sum_to n (λ k. (f k).hi) }
 
@@ -35,26 +43,15 @@ sum_words n f = record { lo = sum_to n (λ k. (f k).lo); hi = sum_to n (λ k. (f
 abbrev pub size : Word → ℕ
 size w = max (unsigned_abs w.lo) (unsigned_abs w.hi)
 
--- z / m rounded down, for m above 0
-abbrev pub floor_over : ℤ → ℕ → ℤ
-floor_over (pos a) m = pos (a / m)
-floor_over (negsuc a) m = negsuc (a / m)
-
-abbrev pub ceil_over : ℤ → ℕ → ℤ
-ceil_over z m = neg_ℤ (floor_over (neg_ℤ z) m)
-
--- a / m rounded up
-abbrev pub up_over : ℕ → ℕ → ℕ
-up_over a m = a / m + min 1 (a % m)
-
--- floor and ceiling over 2^h
+-- the word over 2^h, rounded outward
 abbrev pub word_shift : ℕ → Word → Word
 word_shift h w = record { lo = floor_over w.lo (2 ^ h); hi = ceil_over w.hi (2 ^ h) }
 
--- the least and the greatest of four
+-- the least of four
 unfoldable pub least_of : ℤ → ℤ → ℤ → ℤ → ℤ
 least_of a b c d = int_min (int_min a b) (int_min c d)
 
+-- the greatest of four
 unfoldable pub greatest_of : ℤ → ℤ → ℤ → ℤ → ℤ
 greatest_of a b c d = int_max (int_max a b) (int_max c d)
 

@@ -1,0 +1,18 @@
+-- Scaling by powers of ten, rounded to whole numbers.
+use Rattle.std.specs.Prelude.{ℤ, pos, negsuc, suc, ◌*ℤ◌, ◌^◌}
+use Rattle.whole_numbers.specs.Quotients.{floor_over, ceil_over}
+use Rattle.whole_numbers.specs.Words.{Word}
+
+-- z * 10^k rounded down
+abbrev pub floor_scaled : ℤ → ℤ → ℤ
+floor_scaled z (pos k) = z *ℤ pos (10 ^ k)
+floor_scaled z (negsuc k) = floor_over z (10 ^ suc k)
+
+-- z * 10^k rounded up
+abbrev pub ceil_scaled : ℤ → ℤ → ℤ
+ceil_scaled z (pos k) = z *ℤ pos (10 ^ k)
+ceil_scaled z (negsuc k) = ceil_over z (10 ^ suc k)
+
+-- the word times 10^k, rounded outward
+abbrev pub word_scale10 : Word → ℤ → Word
+word_scale10 w k = record { lo = floor_scaled w.lo k; hi = ceil_scaled w.hi k }
