@@ -1,6 +1,7 @@
 pub mod Division
 pub mod Fits
 pub mod Fractions
+pub mod LeastLaws
 pub mod Powers
 pub mod Products
 pub mod Ring

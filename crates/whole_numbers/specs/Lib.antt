@@ -1,3 +1,4 @@
+pub mod Least
 pub mod Quotients
 pub mod Scaling
 pub mod Sum
