@@ -1,0 +1,6 @@
+pub mod Answers
+pub mod Cuts
+pub mod Decimals
+pub mod Digits
+pub mod Grammar
+pub mod Tallies

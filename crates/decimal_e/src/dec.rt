@@ -1,0 +1,96 @@
+// The type of decimals.
+
+ghost use Rattle.std.specs.Prelude.{◌≡◌, ◌≢◌, ℕ, ℤ, pos, negsuc, ◌+ℤ◌, ◌*ℤ◌, ◌≤ℤ◌, ◌≤◌, ◌<◌, ◌*◌, ◌^◌, ◌%◌, unsigned_abs, MatchOption};
+ghost use Rattle.decimal_e.specs.Decimals.{Decimal, IsCanonical, IsCanonicalOf, IsBounded, OneCanonical};
+
+use std::marker::Model;
+
+/// A decimal `mant * 10^exp`, canonical: zero has exponent 0, another mantissa is no multiple of 10.
+/// The mantissa is below `10^36` in size, the exponent from -800 to 120. So equal values are equal fields.
+#[derive(Clone, Copy, PartialEq, Eq, Debug)]
+pub struct Dec {
+    mant: i128,
+    exp: i32,
+}
+
+impl Model for Dec {
+    ghost Value = { Decimal };
+
+    ghost view = { λ d. record { mant = d.mant; exp = d.exp } };
+
+    ghost invariant = { λ d. IsCanonical (record { mant = d.mant; exp = d.exp }) × IsBounded (record { mant = d.mant; exp = d.exp }) };
+
+    ghost inverse = { λ d. record { mant = d.mant; exp = d.exp } };
+}
+
+pub(crate) fn made(mant: i128, exp: i32) -> Dec
+    requires canonical { IsCanonical (record { mant = mant; exp = exp }) }
+    requires bounded { IsBounded (record { mant = mant; exp = exp }) }
+    ensures { result ≡ record { mant = mant; exp = exp } }
+{
+    Dec { mant, exp }
+}
+
+impl Dec {
+    /// The whole number in front of the power of ten.
+    pub fn mant(&self) -> i128
+        ensures value { result ≡ self.now.mant }
+        ensures canonical { IsCanonical self.now }
+        ensures bounded { IsBounded self.now }
+    {
+        self.mant
+    }
+
+    /// The exponent of ten.
+    pub fn exp(&self) -> i32
+        ensures value { result ≡ self.now.exp }
+        ensures canonical { IsCanonical self.now }
+        ensures bounded { IsBounded self.now }
+    {
+        self.exp
+    }
+
+    /// The canonical form of `mant * 10^exp`, and None exactly where it passes the bounds of the type.
+    pub fn new(mant: i128, exp: i32) -> Option<Dec>
+        requires low { negsuc 9999 ≤ℤ exp }
+        requires high { exp ≤ℤ pos 10000 }
+        ensures { let number : Decimal = record { mant = mant; exp = exp } in MatchOption result
+            ((d : Decimal) × (IsCanonicalOf d number × ¬ (IsBounded d)))
+            (λ d. IsCanonicalOf d number × IsBounded d) }
+    {
+        if mant == 0 {
+            return Some(made(0, 0));
+        }
+        let (size, zeros) = stripped(mant.unsigned_abs());
+        let exp = exp + zeros as i32;
+        if size >= LIMIT || exp < -800 || exp > 120 {
+            return None;
+        }
+        let size = size as i128;
+        Some(made(if mant < 0 { -size } else { size }, exp))
+    }
+}
+
+const LIMIT: u128 = 1_000_000_000_000_000_000_000_000_000_000_000_000;
+
+// The number without the zeros at its end, and how many these are.
+fn stripped(size: u128) -> (u128, u32)
+    requires { 0 < size }
+    ensures value { result.0 * 10 ^ result.1 ≡ size }
+    ensures end { result.0 % 10 ≢ 0 }
+    ensures count { result.1 ≤ 38 }
+{
+    let mut rest = size;
+    let mut zeros = 0;
+    while rest % 10 == 0 {
+        rest /= 10;
+        zeros += 1;
+    }
+    (rest, zeros)
+}
+
+/// Two canonical decimals with one value are one, so equality of fields is equality of numbers.
+pub fn one_canonical()
+    ensures { OneCanonical }
+{
+}
