@@ -1,5 +1,5 @@
-use Rattle.decimal_e.proofs.Pieces.{mantissa_same, power_same}
+use Rattle.decimal_e.proofs.Pieces.{one_numeral_of}
 use Rattle.decimal_e.proofs.read.one_numeral.Goals as goal
 
 pub returns : goal.returns
-returns c = ?
+returns c = one_numeral_of
