@@ -3,4 +3,5 @@ pub mod Cuts
 pub mod Decimals
 pub mod Digits
 pub mod Grammar
+pub mod Scales
 pub mod Tallies

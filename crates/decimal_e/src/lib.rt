@@ -1,10 +1,12 @@
-// Decimals, as SINEX files write them: exact, and canonical.
+//! Decimals, as SINEX files write them: exact, and canonical.
 #![tactic(auto)]
 
 mod cut;
 mod dec;
 mod digits;
 mod read;
+mod scale;
 
-pub use dec::Dec;
+pub use dec::{Dec, one_canonical};
 pub use read::{DecFault, one_answer, one_numeral, read_dec};
+pub use scale::{ceil_at, floor_at, holds_value};
