@@ -1,5 +1,5 @@
 -- Decimals: a whole number times a power of ten.
-use Rattle.std.specs.Prelude.{◌≡◌, ◌≢◌, ℕ, suc, ℤ, pos, negsuc, ◌*ℤ◌, ◌≤ℤ◌, ◌<◌, ◌*◌, ◌^◌, ◌%◌, unsigned_abs}
+use Rattle.std.specs.Prelude.{◌≡◌, ◌≢◌, ℕ, suc, ℤ, pos, negsuc, ◌*ℤ◌, neg_ℤ, ◌≤ℤ◌, ◌<◌, ◌*◌, ◌^◌, ◌%◌, unsigned_abs}
 
 -- the number mant * 10^exp
 pub record Decimal : Type 0 where
@@ -34,6 +34,11 @@ pub record IsBounded (d : Decimal) : Type 0 where
   pub mant : unsigned_abs d.mant < 10 ^ 36
   pub low : negsuc 799 ≤ℤ d.exp
   pub high : d.exp ≤ℤ pos 120
+
+-- the number of this size with the sign of another
+abbrev pub signed_like : ℤ → ℕ → ℤ
+signed_like (pos _) size = pos size
+signed_like (negsuc _) size = neg_ℤ (pos size)
 
 -- two canonical decimals with one value are one
 abbrev pub OneCanonical : Type 0

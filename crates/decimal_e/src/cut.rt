@@ -1,6 +1,6 @@
 // Texts, cut into the pieces of a numeral.
 
-ghost use Rattle.std.specs.Prelude.{◌≡◌, ℕ, ◌≤◌, ◌-◌, ◌↔◌, List, [], ◌++◌, length, take, drop, IsTrue, MatchResult};
+ghost use Rattle.std.specs.Prelude.{◌≡◌, ℕ, ◌≤◌, ◌-◌, ◌↔◌, List, [], ◌++◌, length, take, drop, ◌≢◌, IsTrue, MatchBool, MatchResult};
 ghost use Rattle.decimal_e.specs.Grammar.{Is, IsRun, Spells};
 ghost use Rattle.decimal_e.specs.Cuts.{Begins, CutsRun, CutsOptional, CutsMantissa, CutsPower, mantissa_of, power_of, numeral_of};
 ghost use Rattle.decimal_e.specs.Answers.{IsFault};
@@ -121,6 +121,20 @@ fn cut_power(text: &[u8]) -> (PowerText, &[u8])
     (power, rest)
 }
 
+// Whether a mantissa has a digit.
+fn has_digits(mantissa: &MantissaText) -> bool
+    ensures { let m = mantissa_of mantissa.now in MatchBool result (m.whole ++ m.fraction ≢ []) (m.whole ++ m.fraction ≡ []) }
+{
+    !mantissa.whole.is_empty() || !mantissa.fraction.is_empty()
+}
+
+// Whether an exponent has begun, and has no digit.
+fn is_open(power: &PowerText) -> bool
+    ensures { let p = power_of power.now in MatchBool result ((p.letter ++ p.sign ≢ []) × (p.digits ≡ [])) (p.letter ++ p.sign ≢ [] → p.digits ≢ []) }
+{
+    power.digits.is_empty() && !(power.letter.is_empty() && power.sign.is_empty())
+}
+
 /// Cuts a text into the pieces of its numeral, or says where it leaves the grammar.
 pub(crate) fn cut_numeral(text: &[u8]) -> Result<NumeralText, DecFault>
     ensures { MatchResult result (λ n. Spells (numeral_of n) text.now) (IsFault text.now) }
@@ -130,11 +144,11 @@ pub(crate) fn cut_numeral(text: &[u8]) -> Result<NumeralText, DecFault>
         return Err(DecFault::Empty);
     }
     let (mantissa, rest) = cut_mantissa(rest);
-    if mantissa.whole.is_empty() && mantissa.fraction.is_empty() {
+    if !has_digits(&mantissa) {
         return Err(left_at(text, rest));
     }
     let (power, rest) = cut_power(rest);
-    if power.digits.is_empty() && !(power.letter.is_empty() && power.sign.is_empty()) {
+    if is_open(&power) {
         return Err(left_at(text, rest));
     }
     let (_, rest) = cut_run(Kind::Blank, rest);

@@ -1,7 +1,7 @@
 // The type of decimals.
 
-ghost use Rattle.std.specs.Prelude.{◌≡◌, ◌≢◌, ℕ, ℤ, pos, negsuc, ◌+ℤ◌, ◌*ℤ◌, ◌≤ℤ◌, ◌≤◌, ◌<◌, ◌*◌, ◌^◌, ◌%◌, unsigned_abs, MatchOption};
-ghost use Rattle.decimal_e.specs.Decimals.{Decimal, IsCanonical, IsCanonicalOf, IsBounded, OneCanonical};
+ghost use Rattle.std.specs.Prelude.{◌≡◌, ◌≢◌, ℕ, ℤ, pos, negsuc, ◌+ℤ◌, ◌*ℤ◌, ◌≤ℤ◌, ◌≤◌, ◌<◌, ◌*◌, ◌^◌, ◌%◌, ◌↔◌, unsigned_abs, IsTrue, MatchOption};
+ghost use Rattle.decimal_e.specs.Decimals.{Decimal, IsCanonical, IsCanonicalOf, IsBounded, OneCanonical, signed_like};
 
 use std::marker::Model;
 
@@ -63,15 +63,34 @@ impl Dec {
         }
         let (size, zeros) = stripped(mant.unsigned_abs());
         let exp = exp + zeros as i32;
-        if size >= LIMIT || exp < -800 || exp > 120 {
-            return None;
+        if is_bounded(size, exp) {
+            Some(made(with_sign(mant, size), exp))
+        } else {
+            None
         }
-        let size = size as i128;
-        Some(made(if mant < 0 { -size } else { size }, exp))
     }
 }
 
 const LIMIT: u128 = 1_000_000_000_000_000_000_000_000_000_000_000_000;
+
+// Whether a mantissa of this size and this exponent are within the bounds of the type.
+fn is_bounded(size: u128, exp: i32) -> bool
+    ensures { IsTrue result ↔ ((size < 10 ^ 36) × (negsuc 799 ≤ℤ exp) × (exp ≤ℤ pos 120)) }
+{
+    size < LIMIT && -800 <= exp && exp <= 120
+}
+
+// The number of this size with the sign of another.
+fn with_sign(like: i128, size: u128) -> i128
+    requires { size < 10 ^ 36 }
+    ensures { result ≡ signed_like like size }
+{
+    if like < 0 {
+        -(size as i128)
+    } else {
+        size as i128
+    }
+}
 
 // The number without the zeros at its end, and how many these are.
 fn stripped(size: u128) -> (u128, u32)

@@ -1,6 +1,6 @@
 // Decimals, read from text.
 
-ghost use Rattle.std.specs.Prelude.{◌≡◌, ◌≢◌, ℕ, ℤ, pos, ◌*ℤ◌, ◌<◌, ◌^◌, List, Result, IsTrue, ◌↔◌};
+ghost use Rattle.std.specs.Prelude.{◌≡◌, ◌≢◌, ℕ, ℤ, pos, ◌+ℤ◌, ◌-ℤ◌, ◌*ℤ◌, ◌≤◌, ◌<◌, unsigned_abs, ◌^◌, List, Result, IsTrue, ◌↔◌};
 ghost use Rattle.decimal_e.specs.Decimals.{Decimal};
 ghost use Rattle.decimal_e.specs.Grammar.{IsMantissa, IsPower, sign_of, IsOptional, Numeral};
 ghost use Rattle.decimal_e.specs.Cuts.{numeral_of, mantissa_of, power_of};
@@ -30,13 +30,22 @@ pub enum DecFault {
 
 // The sign's factor times the size.
 fn signed(sign: &[u8], size: u64) -> i128
-    ensures { result ≡ sign_of sign.now *ℤ pos size }
+    ensures value { result ≡ sign_of sign.now *ℤ pos size }
+    ensures size { unsigned_abs result ≡ size }
 {
     if !sign.is_empty() && sign[0] == b'-' {
         -i128::from(size)
     } else {
         i128::from(size)
     }
+}
+
+// The exponent behind a mantissa of which the last digits stand behind the point, or are zeros that are left out.
+fn exponent_of(written: i128, fraction: usize, zeros: usize) -> i128
+    requires { unsigned_abs written ≤ 999 }
+    ensures { result ≡ written -ℤ pos fraction +ℤ pos zeros }
+{
+    written - fraction as i128 + zeros as i128
 }
 
 // The number of a numeral.
@@ -56,8 +65,11 @@ fn numeral_value(numeral: &NumeralText) -> Result<Dec, DecFault>
     if tally.value == 0 {
         return Ok(made(0, 0));
     }
-    let exp = signed(numeral.power.sign, u64::from(written)) - numeral.mantissa.fraction.len() as i128
-        + tally.zeros as i128;
+    let exp = exponent_of(
+        signed(numeral.power.sign, u64::from(written)),
+        numeral.mantissa.fraction.len(),
+        tally.zeros,
+    );
     if exp < -400 || exp > 60 {
         return Err(DecFault::Exponent);
     }
