@@ -118,7 +118,7 @@ list_some : (xs : List ℕ) → xs ≢ [] → (x : ℕ) × (ys : List ℕ) × (x
 list_some [] ne = absurd (ne refl)
 list_some (x ∷ xs) ne = (x, xs, refl)
 
-left_nil : (xs ys : List ℕ) → xs ≡ [] → ys ≡ [] → xs ++ ys ≡ []
+pub left_nil : (xs ys : List ℕ) → xs ≡ [] → ys ≡ [] → xs ++ ys ≡ []
 left_nil xs ys p q = rw (p, q) refl
 
 blanks_begin_not : (k : Kind) (after : List ℕ) → IsRun Blank after → index Blank ≢ index k → Begins k after → ⊥

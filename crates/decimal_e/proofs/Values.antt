@@ -1,5 +1,5 @@
 -- Decimals of one value.
-use Rattle.std.proofs.Common.{◌≡◌, ◌≢◌, ℕ, zero, suc, ℤ, pos, negsuc, ◌+ℤ◌, ◌*ℤ◌, ◌≤ℤ◌, ◌<ℤ◌, ◌+◌, ◌*◌, ◌%◌, ◌≤◌, ◌<◌, ◌^◌, unsigned_abs, refl, ap, sym, ◌∙◌, ◌⊎◌, inl, inr, arith}
+use Rattle.std.proofs.Common.{◌≡◌, ◌≢◌, ℕ, zero, suc, ℤ, pos, negsuc, ◌+ℤ◌, ◌*ℤ◌, neg_ℤ, ◌≤ℤ◌, ◌<ℤ◌, ◌+◌, ◌*◌, ◌%◌, ◌≤◌, ◌<◌, ◌^◌, unsigned_abs, refl, ap, sym, ◌∙◌, ◌⊎◌, inl, inr, arith, subst}
 use Rattle.std.proofs.lemmas.Int.{ints, unsigned_abs-mul, by_lt_z}
 use Rattle.std.proofs.lemmas.Nat.{pow-add}
 use Rattle.std.proofs.Math.IntN.{◌-ℤ◌}
@@ -7,9 +7,9 @@ use Rattle.std.proofs.Math.Nat.{mul-pos}
 use Rattle.whole_numbers.specs.Scaling.{floor_scaled, ceil_scaled}
 use Rattle.whole_numbers.specs.Words.{Holds}
 use Rattle.whole_numbers.proofs.Powers.{ten_above as ten_some}
-use Rattle.whole_numbers.proofs.Ring.{*ℤ_assoc, le_from_product}
+use Rattle.whole_numbers.proofs.Ring.{ring, *ℤ_assoc, le_from_product, neg-*ℤ}
 use Rattle.whole_numbers.proofs.WordLaws.{floor_over_le, le-ceil_over}
-use Rattle.decimal_e.specs.Decimals.{Decimal, ten_above, ten_below, SameValue, IsCanonical, IsCanonicalOf}
+use Rattle.decimal_e.specs.Decimals.{Decimal, ten_above, ten_below, SameValue, IsCanonical, IsCanonicalOf, IsBounded, signed_like}
 use Rattle.decimal_e.specs.Scales.{decimal_word}
 
 -- the fraction of a power of ten is above 0
@@ -51,7 +51,7 @@ lifted a b k h s =
 ends_in_zero : (x k : ℕ) → (x * 10 ^ suc k) % 10 ≡ 0
 ends_in_zero x k = let p : 10 ^ suc k ≡ 10 ^ k * 10 = omega arith in rw p (omega arith)
 
-decimal_by : (a b : Decimal) → a.mant ≡ b.mant → a.exp ≡ b.exp → a ≡ b
+pub decimal_by : (a b : Decimal) → a.mant ≡ b.mant → a.exp ≡ b.exp → a ≡ b
 decimal_by a b m e =
     let made : ℤ → ℤ → Decimal = λ x y. record { mant = x; exp = y } in
     ap (λ x. made x a.exp) m ∙ ap (λ y. made b.mant y) e
@@ -93,3 +93,62 @@ holds_at m (negsuc k) =
 
 pub holds_word : (d : Decimal) (k : ℤ) → Holds (decimal_word d k) (d.mant *ℤ pos (ten_above (d.exp +ℤ k))) (ten_below (d.exp +ℤ k))
 holds_word d k = holds_at d.mant (d.exp +ℤ k)
+
+-- ---- canonical forms
+pub same_trans : (a b c : Decimal) → SameValue a b → SameValue b c → SameValue a c
+same_trans a b c p q =
+    let s = ap (λ x. x *ℤ pos (ten_below c.exp)) p.same in
+    let t = ap (λ x. x *ℤ pos (ten_below a.exp)) q.same in
+    record { same = cancel (a.mant *ℤ (pos (ten_above a.exp) *ℤ pos (ten_below c.exp))) (c.mant *ℤ (pos (ten_above c.exp) *ℤ pos (ten_below a.exp))) (ten_below b.exp) (below_some b.exp) (crossed a.mant b.mant c.mant (pos (ten_above a.exp)) (pos (ten_below a.exp)) (pos (ten_above b.exp)) (pos (ten_below b.exp)) (pos (ten_above c.exp)) (pos (ten_below c.exp)) p.same q.same) }
+  where
+    crossed : (m n o aa ab ba bb ca cb : ℤ) → m *ℤ (aa *ℤ bb) ≡ n *ℤ (ba *ℤ ab) → n *ℤ (ba *ℤ cb) ≡ o *ℤ (ca *ℤ bb) → (m *ℤ (aa *ℤ cb)) *ℤ bb ≡ (o *ℤ (ca *ℤ ab)) *ℤ bb
+    crossed m n o aa ab ba bb ca cb p q =
+        let s = simp ring at (ap (λ x. x *ℤ cb) p) in
+        let t = simp ring at (ap (λ x. x *ℤ ab) q) in
+        simp ring (omega (arith, ints, s, t))
+
+-- one number has one canonical form
+pub one_form : (d e a : Decimal) → IsCanonicalOf d a → IsCanonicalOf e a → d ≡ e
+one_form d e a p q = one_canonical_of d e p.canonical q.canonical (same_trans d a e p.same (same_sym e a q.same))
+
+pub signed_size : (m : ℤ) (s : ℕ) → unsigned_abs (signed_like m s) ≡ s
+signed_size (pos n) s = refl
+signed_size (negsuc n) s = omega (arith, ints)
+
+signed_product : (m : ℤ) (s p : ℕ) → s * p ≡ unsigned_abs m → signed_like m s *ℤ pos p ≡ m
+signed_product (pos n) s p e = omega (arith, ints, e)
+signed_product (negsuc n) s p e = let q : neg_ℤ (pos s) *ℤ pos p ≡ neg_ℤ (pos (s * p)) = neg-*ℤ (pos s) (pos p) in omega (arith, ints, e, q)
+
+signed_some : (m : ℤ) (s : ℕ) → signed_like m s ≡ pos 0 → s ≡ 0
+signed_some m s e = sym (signed_size m s) ∙ ap unsigned_abs e
+
+-- the canonical form of a number that is not zero is what is left without the zeros at its end
+pub stripped_form : (m e f : ℤ) (s z : ℕ) → s * 10 ^ z ≡ unsigned_abs m → s % 10 ≢ 0 → f ≡ e +ℤ pos z → IsCanonicalOf (record { mant = signed_like m s; exp = f }) (record { mant = m; exp = e })
+stripped_form m e f s z p n h = record {
+  same = subst (λ (x : ℤ). SameValue (record { mant = signed_like m s; exp = f }) (record { mant = x; exp = e })) (signed_product m s (10 ^ z) p) (same_shift (signed_like m s) e f z h);
+  canonical = record {
+    zero = λ y. absurd (n (ap (λ x. x % 10) (signed_some m s y)));
+    other = λ _ y. n (ap (λ x. x % 10) (sym (signed_size m s)) ∙ y);
+  };
+}
+
+-- zero
+pub zero_form : (e : ℤ) → IsCanonicalOf (record { mant = pos 0; exp = pos 0 }) (record { mant = pos 0; exp = e })
+zero_form e = record { same = record { same = omega (arith, ints) }; canonical = record { zero = λ _. refl; other = λ n. absurd (n refl) } }
+
+pub zero_bounded : IsBounded (record { mant = pos 0; exp = pos 0 })
+zero_bounded = record { mant = omega arith; low = omega (arith, ints); high = omega (arith, ints) }
+
+-- a mantissa and an exponent within the bounds
+pub bounded_form : (m e : ℤ) (s : ℕ) → (s < 10 ^ 36) × (negsuc 799 ≤ℤ e) × (e ≤ℤ pos 120) → IsBounded (record { mant = signed_like m s; exp = e })
+bounded_form m e s h = record { mant = rw (signed_size m s) h.0; low = h.1; high = h.2 }
+
+pub bounded_parts : (m e : ℤ) (s : ℕ) → IsBounded (record { mant = signed_like m s; exp = e }) → (s < 10 ^ 36) × (negsuc 799 ≤ℤ e) × (e ≤ℤ pos 120)
+bounded_parts m e s h = (rw (signed_size m s) at h.mant, h.low, h.high)
+
+-- the same for numbers that are equal to these
+pub stripped_form_at : (m e w f : ℤ) (s z u : ℕ) → w ≡ signed_like m s → f ≡ e +ℤ pos z → s * 10 ^ z ≡ u → u ≡ unsigned_abs m → s % 10 ≢ 0 → IsCanonicalOf (record { mant = w; exp = f }) (record { mant = m; exp = e })
+stripped_form_at m e w f s z u h k p q n = subst (λ (x : ℤ). IsCanonicalOf (record { mant = x; exp = f }) (record { mant = m; exp = e })) (sym h) (stripped_form m e f s z (p ∙ q) n k)
+
+pub bounded_form_at : (m e w : ℤ) (s : ℕ) → w ≡ signed_like m s → (s < 10 ^ 36) × (negsuc 799 ≤ℤ e) × (e ≤ℤ pos 120) → IsBounded (record { mant = w; exp = e })
+bounded_form_at m e w s h b = subst (λ (x : ℤ). IsBounded (record { mant = x; exp = e })) (sym h) (bounded_form m e s b)

@@ -1,6 +1,6 @@
 // The type of decimals.
 
-ghost use Rattle.std.specs.Prelude.{◌≡◌, ◌≢◌, ℕ, ℤ, pos, negsuc, ◌+ℤ◌, ◌*ℤ◌, ◌≤ℤ◌, ◌≤◌, ◌<◌, ◌*◌, ◌^◌, ◌%◌, ◌↔◌, unsigned_abs, IsTrue, MatchOption};
+ghost use Rattle.std.specs.Prelude.{◌≡◌, ◌≢◌, ℕ, ℤ, pos, negsuc, ◌+ℤ◌, ◌*ℤ◌, ◌≤ℤ◌, ◌≤◌, ◌<◌, ◌*◌, ◌^◌, ◌%◌, unsigned_abs, MatchBool, MatchOption};
 ghost use Rattle.decimal_e.specs.Decimals.{Decimal, IsCanonical, IsCanonicalOf, IsBounded, OneCanonical, signed_like};
 
 use std::marker::Model;
@@ -62,7 +62,7 @@ impl Dec {
             return Some(made(0, 0));
         }
         let (size, zeros) = stripped(mant.unsigned_abs());
-        let exp = exp + zeros as i32;
+        let exp = raised(exp, zeros);
         if is_bounded(size, exp) {
             Some(made(with_sign(mant, size), exp))
         } else {
@@ -73,9 +73,19 @@ impl Dec {
 
 const LIMIT: u128 = 1_000_000_000_000_000_000_000_000_000_000_000_000;
 
+// The exponent of a mantissa without so many zeros at its end.
+fn raised(exp: i32, zeros: u32) -> i32
+    requires low { negsuc 9999 ≤ℤ exp }
+    requires high { exp ≤ℤ pos 10000 }
+    requires few { zeros ≤ 38 }
+    ensures { result ≡ exp +ℤ pos zeros }
+{
+    exp + zeros as i32
+}
+
 // Whether a mantissa of this size and this exponent are within the bounds of the type.
 fn is_bounded(size: u128, exp: i32) -> bool
-    ensures { IsTrue result ↔ ((size < 10 ^ 36) × (negsuc 799 ≤ℤ exp) × (exp ≤ℤ pos 120)) }
+    ensures { let within = (size < 10 ^ 36) × (negsuc 799 ≤ℤ exp) × (exp ≤ℤ pos 120) in MatchBool result within (¬ within) }
 {
     size < LIMIT && -800 <= exp && exp <= 120
 }
