@@ -1,5 +1,5 @@
 -- What a numeral is worth, and that a text has one answer.
-use Rattle.std.proofs.Common.{◌≡◌, ◌≢◌, ℕ, zero, suc, ℤ, pos, negsuc, ◌+ℤ◌, ◌*ℤ◌, ◌≤ℤ◌, ◌+◌, ◌*◌, ◌%◌, ◌≤◌, ◌<◌, ◌^◌, List, [], ◌∷◌, ◌++◌, length, min, unsigned_abs, refl, ap, sym, ◌∙◌, ◌⊎◌, inl, inr, arith, subst, Result, Ok, Err, true, false}
+use Rattle.std.proofs.Common.{◌≡◌, ◌≢◌, ℕ, zero, suc, ℤ, pos, negsuc, ◌+ℤ◌, ◌*ℤ◌, ◌≤ℤ◌, ◌<ℤ◌, ◌+◌, ◌*◌, ◌%◌, ◌≤◌, ◌<◌, ◌^◌, List, [], ◌∷◌, ◌++◌, length, min, unsigned_abs, refl, ap, sym, ◌∙◌, ◌⊎◌, inl, inr, arith, subst, Result, Ok, Err, true, false}
 use Rattle.std.proofs.Math.IntN.{◌-ℤ◌}
 use Rattle.std.proofs.lemmas.Int.{ints, unsigned_abs-mul}
 use Rattle.std.proofs.lemmas.Bool.{cases_lt}
@@ -55,6 +55,29 @@ tally_zero n t h few z =
 pub near : (n : Numeral) (d : Decimal) → number n.power.digits ≤ 999 → IsCanonicalOf d (value_of n) → IsReadable d → IsFarOut n → ⊥
 near n d small form ok (inl far) = omega arith
 near n d small form ok (inr (e, (other, not))) = not (subst IsReadable (one_form d e (value_of n) form other) ok)
+
+-- beyond the exponents that are read
+pub far : (n : Numeral) (d : Decimal) → IsCanonicalOf d (value_of n) → d.mant ≢ pos 0 → (IsReadable d → ⊥) → IsFarOut n
+far n d form some not = inr (d, (form, not))
+
+pub form_at : (d e a : Decimal) → d ≡ e → IsCanonicalOf d a → IsCanonicalOf e a
+form_at d e a is form = subst (λ (x : Decimal). IsCanonicalOf x a) is form
+
+-- a numeral with a canonical form at hand that is read
+pub value_read : (n : Numeral) (d r : Decimal) (w : ℕ) → r ≡ d → IsCanonicalOf d (value_of n) → w ≡ min (number n.power.digits) 1000 → w ≤ 999 → IsReadable d → (IsFarOut n → ⊥) × IsCanonicalOf r (value_of n)
+value_read n d r w is form cap small ok = (near n d (omega arith) form ok, form_at d r (value_of n) (sym is) form)
+
+pub zero_read : IsReadable (record { mant = pos 0; exp = pos 0 })
+zero_read = record { low = λ n. absurd (n refl); high = λ n. absurd (n refl) }
+
+signed_not_zero : (s : List ℕ) (v : ℕ) → v ≢ 0 → sign_of s *ℤ pos v ≢ pos 0
+signed_not_zero s v some z = some (sym (sign_size s v) ∙ ap unsigned_abs z)
+
+pub far_below : (n : Numeral) (v : ℕ) (e : ℤ) → IsCanonicalOf (record { mant = sign_of n.mantissa.sign *ℤ pos v; exp = e }) (value_of n) → v ≢ 0 → e <ℤ negsuc 399 → IsFarOut n
+far_below n v e form some low = far n _ form (signed_not_zero n.mantissa.sign v some) (λ r. let l = r.low (signed_not_zero n.mantissa.sign v some) in omega (arith, ints))
+
+pub far_above : (n : Numeral) (v : ℕ) (e : ℤ) → IsCanonicalOf (record { mant = sign_of n.mantissa.sign *ℤ pos v; exp = e }) (value_of n) → v ≢ 0 → pos 60 <ℤ e → IsFarOut n
+far_above n v e form some high = far n _ form (signed_not_zero n.mantissa.sign v some) (λ r. let l = r.high (signed_not_zero n.mantissa.sign v some) in omega (arith, ints))
 
 -- ---- at most one answer
 two_values : (n : Numeral) (r s : Result Decimal DecFault) → IsValue n r → IsValue n s → r ≡ s

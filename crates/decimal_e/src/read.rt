@@ -1,6 +1,6 @@
 // Decimals, read from text.
 
-ghost use Rattle.std.specs.Prelude.{◌≡◌, ◌≢◌, ℕ, ℤ, pos, ◌+ℤ◌, ◌-ℤ◌, ◌*ℤ◌, ◌≤◌, ◌<◌, unsigned_abs, ◌^◌, List, Result, IsTrue, ◌↔◌};
+ghost use Rattle.std.specs.Prelude.{◌≡◌, ◌≢◌, ℕ, ℤ, pos, ◌+ℤ◌, ◌-ℤ◌, ◌*ℤ◌, ◌≤◌, ◌<◌, unsigned_abs, ◌^◌, List, length, Result, IsTrue, ◌↔◌};
 ghost use Rattle.decimal_e.specs.Decimals.{Decimal};
 ghost use Rattle.decimal_e.specs.Grammar.{IsMantissa, IsPower, sign_of, IsOptional, Numeral};
 ghost use Rattle.decimal_e.specs.Cuts.{numeral_of, mantissa_of, power_of};
@@ -40,12 +40,14 @@ fn signed(sign: &[u8], size: u64) -> i128
     }
 }
 
-// The exponent behind a mantissa of which the last digits stand behind the point, or are zeros that are left out.
-fn exponent_of(written: i128, fraction: usize, zeros: usize) -> i128
-    requires { unsigned_abs written ≤ 999 }
-    ensures { result ≡ written -ℤ pos fraction +ℤ pos zeros }
+// The exponent of a numeral, of which the digits behind the point and zeros at the end are taken off.
+fn exponent_of(numeral: &NumeralText, written: u32, zeros: usize) -> i128
+    requires { written ≤ 999 }
+    ensures { let n = numeral_of numeral.now in
+        result ≡ sign_of n.power.sign *ℤ pos written -ℤ pos (length n.mantissa.fraction) +ℤ pos zeros }
 {
-    written - fraction as i128 + zeros as i128
+    let fraction = numeral.mantissa.fraction.len();
+    signed(numeral.power.sign, u64::from(written)) - fraction as i128 + zeros as i128
 }
 
 // The number of a numeral.
@@ -65,11 +67,7 @@ fn numeral_value(numeral: &NumeralText) -> Result<Dec, DecFault>
     if tally.value == 0 {
         return Ok(made(0, 0));
     }
-    let exp = exponent_of(
-        signed(numeral.power.sign, u64::from(written)),
-        numeral.mantissa.fraction.len(),
-        tally.zeros,
-    );
+    let exp = exponent_of(numeral, written, tally.zeros);
     if exp < -400 || exp > 60 {
         return Err(DecFault::Exponent);
     }
