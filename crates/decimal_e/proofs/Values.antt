@@ -1,9 +1,10 @@
 -- Decimals of one value.
-use Rattle.std.proofs.Common.{◌≡◌, ◌≢◌, ℕ, zero, suc, ℤ, pos, negsuc, ◌+ℤ◌, ◌*ℤ◌, neg_ℤ, ◌≤ℤ◌, ◌<ℤ◌, ◌+◌, ◌*◌, ◌%◌, ◌≤◌, ◌<◌, ◌^◌, unsigned_abs, refl, ap, sym, ◌∙◌, ◌⊎◌, inl, inr, arith, subst}
+use Rattle.std.proofs.Common.{◌≡◌, ◌≢◌, ℕ, zero, suc, ℤ, pos, negsuc, ◌+ℤ◌, ◌*ℤ◌, neg_ℤ, ◌≤ℤ◌, ◌<ℤ◌, ◌+◌, ◌*◌, ◌/◌, ◌%◌, ◌≤◌, ◌<◌, ◌^◌, unsigned_abs, refl, ap, sym, ◌∙◌, ◌⊎◌, inl, inr, arith, subst}
 use Rattle.std.proofs.lemmas.Int.{ints, unsigned_abs-mul, by_lt_z}
 use Rattle.std.proofs.lemmas.Nat.{pow-add}
 use Rattle.std.proofs.Math.IntN.{◌-ℤ◌}
 use Rattle.std.proofs.Math.Nat.{mul-pos}
+use Rattle.std.proofs.Math.Decide.{ℕ_discrete}
 use Rattle.whole_numbers.specs.Scaling.{floor_scaled, ceil_scaled}
 use Rattle.whole_numbers.specs.Words.{Holds}
 use Rattle.whole_numbers.proofs.Powers.{ten_above as ten_some}
@@ -152,3 +153,29 @@ stripped_form_at m e w f s z u h k p q n = subst (λ (x : ℤ). IsCanonicalOf (r
 
 pub bounded_form_at : (m e w : ℤ) (s : ℕ) → w ≡ signed_like m s → (s < 10 ^ 36) × (negsuc 799 ≤ℤ e) × (e ≤ℤ pos 120) → IsBounded (record { mant = w; exp = e })
 bounded_form_at m e w s h b = subst (λ (x : ℤ). IsBounded (record { mant = x; exp = e })) (sym h) (bounded_form m e s b)
+
+-- ---- each decimal has a canonical form
+-- a number above 0 without the zeros at its end
+without_zeros : (most n : ℕ) → n ≤ most → 0 < n → (s : ℕ) × (z : ℕ) × ((s * 10 ^ z ≡ n) × (s % 10 ≢ 0))
+without_zeros zero n l h = absurd (omega arith)
+without_zeros (suc most) n l h =
+    elim (ℕ_discrete (n % 10) 0) [
+      | yes e ↦
+          let r = without_zeros most (n / 10) (omega arith) (omega arith) in
+          let p : 10 ^ suc r.1 ≡ 10 ^ r.1 * 10 = omega arith in
+          let m : r.0 * 10 ^ suc r.1 ≡ r.0 * (10 ^ r.1 * 10) = ap (λ x. r.0 * x) p in
+          (r.0, suc r.1, (omega (arith, m, r.2.0), r.2.1))
+      | no e ↦ (n, 0, (omega arith, e))
+    ]
+
+some_form : (a : Decimal) → (d : Decimal) × IsCanonicalOf d a
+some_form a =
+    elim (zero_or_not a.mant) [
+      | inl z ↦ (record { mant = pos 0; exp = pos 0 }, subst (λ (m : ℤ). IsCanonicalOf (record { mant = pos 0; exp = pos 0 }) (record { mant = m; exp = a.exp })) (sym z) (zero_form a.exp))
+      | inr n ↦
+          let r = without_zeros (unsigned_abs a.mant) (unsigned_abs a.mant) (omega arith) (omega (arith, ints)) in
+          (record { mant = signed_like a.mant r.0; exp = a.exp +ℤ pos r.1 }, stripped_form a.mant a.exp (a.exp +ℤ pos r.1) r.0 r.1 r.2.0 r.2.1 refl)
+    ]
+
+pub one_form_of : (a : Decimal) → (d : Decimal) × (IsCanonicalOf d a × ((e : Decimal) → IsCanonicalOf e a → e ≡ d))
+one_form_of a = let f = some_form a in (f.0, (f.1, λ e h. one_form e f.0 a h f.1))

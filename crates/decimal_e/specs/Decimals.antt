@@ -43,3 +43,7 @@ signed_like (negsuc _) size = neg_ℤ (pos size)
 -- two canonical decimals with one value are one
 abbrev pub OneCanonical : Type 0
 OneCanonical = (a b : Decimal) → IsCanonical a → IsCanonical b → SameValue a b → a ≡ b
+
+-- each decimal has one canonical form, and no other
+abbrev pub OneForm : Type 0
+OneForm = (a : Decimal) → (d : Decimal) × (IsCanonicalOf d a × ((e : Decimal) → IsCanonicalOf e a → e ≡ d))

@@ -7,6 +7,9 @@ mod digits;
 mod read;
 mod scale;
 
-pub use dec::{Dec, one_canonical};
+pub use dec::{Dec, one_canonical, one_form};
 pub use read::{DecFault, one_answer, one_numeral, read_dec};
 pub use scale::{ceil_at, floor_at, holds_value};
+
+#[cfg(test)]
+mod tests;

@@ -28,6 +28,16 @@ pub enum DecFault {
     Exponent,
 }
 
+/// The most digits from the first that isn't 0 to the last that isn't.
+const MOST_DIGITS: usize = 18;
+
+/// The greatest size of a written exponent.
+const GREATEST_WRITTEN: u32 = 999;
+
+/// The least and the greatest canonical exponent of a number that isn't zero.
+const LEAST_EXPONENT: i128 = -400;
+const GREATEST_EXPONENT: i128 = 60;
+
 // The sign's factor times the size.
 fn signed(sign: &[u8], size: u64) -> i128
     ensures value { result ≡ sign_of sign.now *ℤ pos size }
@@ -57,18 +67,18 @@ fn numeral_value(numeral: &NumeralText) -> Result<Dec, DecFault>
     ensures { IsValue (numeral_of numeral.now) result }
 {
     let tally = tally_of(&numeral.mantissa);
-    if tally.digits > 18 {
+    if tally.digits > MOST_DIGITS {
         return Err(DecFault::Digits);
     }
     let written = capped(numeral.power.digits);
-    if written > 999 {
+    if written > GREATEST_WRITTEN {
         return Err(DecFault::Exponent);
     }
     if tally.value == 0 {
         return Ok(made(0, 0));
     }
     let exp = exponent_of(numeral, written, tally.zeros);
-    if exp < -400 || exp > 60 {
+    if exp < LEAST_EXPONENT || exp > GREATEST_EXPONENT {
         return Err(DecFault::Exponent);
     }
     Ok(made(signed(numeral.mantissa.sign, tally.value), exp as i32))
