@@ -1,0 +1,7 @@
+pub mod Answers
+pub mod Cuts
+pub mod Decimals
+pub mod Digits
+pub mod Grammar
+pub mod Scales
+pub mod Tallies

@@ -1,0 +1,15 @@
+//! Decimals, as SINEX files write them: exact, and canonical.
+#![tactic(auto)]
+
+mod cut;
+mod dec;
+mod digits;
+mod read;
+mod scale;
+
+pub use dec::{Dec, one_canonical, one_form};
+pub use read::{DecFault, one_answer, one_numeral, read_dec};
+pub use scale::{ceil_at, floor_at, holds_value};
+
+#[cfg(test)]
+mod tests;

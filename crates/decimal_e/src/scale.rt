@@ -1,0 +1,31 @@
+// Decimals times powers of ten, rounded to whole numbers.
+
+ghost use Rattle.std.specs.Prelude.{◌≡◌, ℕ, ℤ, pos, negsuc, ◌+ℤ◌, ◌≤ℤ◌, ◌≤◌, ◌^◌, unsigned_abs, SomeIff};
+ghost use Rattle.decimal_e.specs.Scales.{decimal_word, HoldsValue};
+
+use crate::dec::Dec;
+use whole_numbers::{scale_ceil, scale_floor};
+
+/// The floor of `d * 10^k`, and None exactly where it passes `10^37` in size.
+pub fn floor_at(d: &Dec, k: i32) -> Option<i128>
+    requires low { negsuc 99 ≤ℤ k }
+    requires high { k ≤ℤ pos 100 }
+    ensures { let floor = (decimal_word d.now k).lo in SomeIff result (unsigned_abs floor ≤ 10 ^ 37) floor }
+{
+    scale_floor(d.mant(), d.exp() + k)
+}
+
+/// The ceiling of `d * 10^k`, and None exactly where it passes `10^37` in size.
+pub fn ceil_at(d: &Dec, k: i32) -> Option<i128>
+    requires low { negsuc 99 ≤ℤ k }
+    requires high { k ≤ℤ pos 100 }
+    ensures { let ceiling = (decimal_word d.now k).hi in SomeIff result (unsigned_abs ceiling ≤ 10 ^ 37) ceiling }
+{
+    scale_ceil(d.mant(), d.exp() + k)
+}
+
+/// The word from floor to ceiling holds the exact value of `d * 10^k`.
+pub fn holds_value()
+    ensures { HoldsValue }
+{
+}
