@@ -10,16 +10,18 @@ use Rattle.desk_io.specs.declared.desk.DeskError.{DeskError}
 -- the file that is written holds this, and all else is as before
 pub record HasWritten (name part : List ℕ) (old new : Content) : Type 0 where
   pub said : new.said ≡ old.said
+  pub left : new.left ≡ old.left
   pub current : new.current ≡ name
   pub others : SameBut name old new
   pub file : new.files name ≡ Some (record { bytes = part; finished = false })
 
 pub created : (name : List ℕ) (old new : Content) (u : Unit {0}) → Creates name old new (Ok u) → HasWritten name [] old new
-created name old new u h = record { said = h.said; current = h.current; others = h.others; file = h.empty }
+created name old new u h = record { said = h.said; left = h.left; current = h.current; others = h.others; file = h.empty }
 
 pub written : (name part piece : List ℕ) (old now new : Content) (u : Unit {0}) → HasWritten name part old now → Writes piece now new (Ok u) → HasWritten name (part ++ piece) old new
 written name part piece old now new u so h = record {
   said = h.said ∙ so.said;
+  left = h.left ∙ so.left;
   current = h.current ∙ so.current;
   others = λ other differs. h.others other (λ same. differs (same ∙ so.current)) ∙ so.others other differs;
   file = ap new.files (sym so.current) ∙ h.appended (record { bytes = part; finished = false }) (ap now.files so.current ∙ so.file);
@@ -32,6 +34,7 @@ cut_short name part piece rest text old now new e so split h =
     let whole : text ≡ (part ++ left.0) ++ (((left.1).0) ++ rest) = rw (split, (left.1).1, append_assoc, append_assoc, append_assoc) refl in
     record {
       said = h.said ∙ so.said;
+  left = h.left ∙ so.left;
       others = λ other differs. h.others other (λ same. differs (same ∙ so.current)) ∙ so.others other differs;
       whole = tt;
       part = inr (part ++ left.0, ((left.1).0 ++ rest, whole), ap new.files (sym so.current) ∙ left.2);
@@ -41,12 +44,14 @@ cut_short name part piece rest text old now new e so split h =
 pub ended : (name text : List ℕ) (old now new : Content) (result : Result (Unit {0}) DeskError) → HasWritten name text old now → Finishes now new result → WritesFile name text old new result
 ended name text old now new (Ok u) so h = record {
   said = h.said ∙ so.said;
+  left = h.left ∙ so.left;
   others = λ other differs. h.others other (λ same. differs (same ∙ so.current)) ∙ so.others other differs;
   whole = ap new.files (sym so.current) ∙ h.done (record { bytes = text; finished = false }) (ap now.files so.current ∙ so.file);
   part = tt;
 }
 ended name text old now new (Err e) so h = record {
   said = h.said ∙ so.said;
+  left = h.left ∙ so.left;
   others = λ other differs. h.others other (λ same. differs (same ∙ so.current)) ∙ so.others other differs;
   whole = tt;
   part = inr (text, ([], sym (append-nil text)), ap (λ f. f name) h.refused.files ∙ so.file);

@@ -28,6 +28,7 @@ pub record Reads (buffer : List ℕ) (old new : Content) (result : Result ℕ De
 -- The name is an empty file, and all others are as before.
 pub record Creates (name : List ℕ) (old new : Content) (result : Result (Unit {0}) DeskError) : Type 0 where
   pub said : new.said ≡ old.said
+  pub left : new.left ≡ old.left
   pub others : OnOk result (SameBut name old new)
   pub current : OnOk result (new.current ≡ name)
   pub empty : OnOk result (new.files name ≡ Some (record { bytes = []; finished = false }))
@@ -36,6 +37,7 @@ pub record Creates (name : List ℕ) (old new : Content) (result : Result (Unit 
 -- A prefix of the bytes is appended to the file that was created last, on Ok all of them.
 pub record Writes (bytes : List ℕ) (old new : Content) (result : Result (Unit {0}) DeskError) : Type 0 where
   pub said : new.said ≡ old.said
+  pub left : new.left ≡ old.left
   pub current : new.current ≡ old.current
   pub others : SameBut old.current old new
   pub appended : (file : File) → old.files old.current ≡ Some file →
@@ -46,6 +48,7 @@ pub record Writes (bytes : List ℕ) (old new : Content) (result : Result (Unit 
 -- The file that was created last is finished, with the bytes that it has.
 pub record Finishes (old new : Content) (result : Result (Unit {0}) DeskError) : Type 0 where
   pub said : new.said ≡ old.said
+  pub left : new.left ≡ old.left
   pub current : new.current ≡ old.current
   pub others : SameBut old.current old new
   pub done : (file : File) → old.files old.current ≡ Some file →
@@ -55,5 +58,6 @@ pub record Finishes (old new : Content) (result : Result (Unit {0}) DeskError) :
 -- A prefix of the bytes is said, on Ok all of them.
 pub record Says (bytes : List ℕ) (old new : Content) (result : Result (Unit {0}) DeskError) : Type 0 where
   pub files : new.files ≡ old.files
+  pub left : new.left ≡ old.left
   pub current : new.current ≡ old.current
   pub appended : MatchResult result (λ _. new.said ≡ old.said ++ bytes) (λ _. (part : List ℕ) × IsFront part bytes × (new.said ≡ old.said ++ part))

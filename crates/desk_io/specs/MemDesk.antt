@@ -1,5 +1,5 @@
 -- What a desk in memory holds, and which of its calls fail.
-use Rattle.std.specs.Prelude.{◌≡◌, ◌==◌, ◌&&◌, ◌++◌, ◌+◌, ◌-◌, ◌/◌, ◌^◌, ℕ, Bool, List, length, take, drop, min, nat_lt, if◌then◌else◌, IsTrue, ◌↔◌, Some, Option, Result, IsErr, IsErrOf, string_bytes, String}
+use Rattle.std.specs.Prelude.{◌≡◌, ◌==◌, ◌&&◌, ◌++◌, ◌+◌, ◌-◌, ◌/◌, ◌^◌, ℕ, Bool, List, [], length, take, drop, min, nat_lt, if◌then◌else◌, IsTrue, ◌↔◌, Some, Option, Result, IsErr, IsErrOf, string_bytes, String}
 use Rattle.std.specs.List.{list_any}
 use Rattle.std.specs.declared.alloc.Global.{Global}
 use Rattle.std.specs.Option.{option_map}
@@ -37,11 +37,12 @@ abbrev pub next_fails : MemDesk → Bool
 next_fails desk = call_fails desk.fail.items desk.calls
 
 -- The call was counted, and the count of faults rose by one exactly where it fails. Both counts
--- stand still at their type's end.
+-- stand still at their type's end. The list stays, so where it is empty no call ever fails.
 pub record Counted (old new : MemDesk) : Type 0 where
   pub calls : new.calls ≡ min (old.calls + 1) (2 ^ 32 - 1)
   pub faults : new.faults ≡ (if next_fails old then min (old.faults + 1) (2 ^ 64 - 1) else old.faults)
   pub fail : new.fail ≡ old.fail
+  pub faultless : old.fail.items ≡ [] → new.faults ≡ old.faults
 
 -- A call that fails changes nothing but the counts, and no other call answers Fault.
 pub record FailsWhole {T : Type 0} (old new : MemDesk) (result : Result T DeskError) : Type 0 where

@@ -103,6 +103,7 @@ fn counts_fault(fail: &[u32], calls: &mut u32, faults: &mut u64) -> bool
     ensures faults { faults.new ≡ (if result then min (faults.old + 1) (2 ^ 64 - 1) else faults.old) }
     ensures later { faults.old ≤ faults.new }
     ensures rose { result ≡ true → Rose faults.old faults.new }
+    ensures faultless { fail.now ≡ [] → faults.new ≡ faults.old }
 {
     if *calls == u32::MAX {
         return false;

@@ -2,7 +2,8 @@
 ghost use Rattle.std.specs.Prelude.{◌≡◌, ◌⊎◌, ◌≤◌, ◌<◌, ◌^◌, IsTrue, IsErrOf, OnOk, OnErr, IfOk, false, true, length};
 ghost use Rattle.desk_io.specs.Content.{KeepsAll, after_open, with_writing};
 ghost use Rattle.desk_io.specs.Desk.{HasCause, Rose};
-ghost use Rattle.desk_io.specs.Whole.{reading, Answers, WritesFile};
+ghost use Rattle.desk_io.specs.Whole.{reading, refusal, Answers, WritesFile};
+ghost use Rattle.desk_io.specs.declared.whole.ReadError.TheVariants.{Memory};
 
 use crate::{Desk, DeskError};
 use std::alloc::{AllocError, Global};
@@ -26,6 +27,25 @@ pub enum ReadError {
     /// There was no memory for the file.
     #[error("out of memory")]
     Memory,
+}
+
+impl From<DeskError> for ReadError {
+    ghost from_gives = { λ e r. r ≡ refusal e };
+
+    fn from(e: DeskError) -> ReadError {
+        match e {
+            DeskError::Fault => ReadError::Fault,
+            DeskError::Memory => ReadError::Memory,
+        }
+    }
+}
+
+impl From<AllocError> for ReadError {
+    ghost from_gives = { λ _ r. r ≡ Memory };
+
+    fn from(_e: AllocError) -> ReadError {
+        ReadError::Memory
+    }
 }
 
 fn buffer(alloc: Global, size: usize) -> Result<Vec<u8>, AllocError>
@@ -58,34 +78,20 @@ pub fn read_all<D: Desk>(
     ensures fault { IsErrOf result ReadError.Fault → Rose (D.faults desk.old) (D.faults desk.new) }
     ensures writing { (D.facts desk.new).writing ≡ (D.facts desk.old).writing }
 {
-    let mut piece = match buffer(alloc, PIECE) {
-        Ok(piece) => piece,
-        Err(_) => return Err(ReadError::Memory),
-    };
-    let found = match desk.open(name) {
-        Ok(found) => found,
-        Err(DeskError::Fault) => return Err(ReadError::Fault),
-        Err(DeskError::Memory) => return Err(ReadError::Memory),
-    };
-    if !found {
+    let mut piece = buffer(alloc, PIECE)?;
+    if !desk.open(name)? {
         return Err(ReadError::NoFile);
     }
     let mut text = Vec::new(alloc);
     for turn in 0..limit + 1 {
-        let count = match desk.read(&mut piece) {
-            Ok(count) => count,
-            Err(DeskError::Fault) => return Err(ReadError::Fault),
-            Err(DeskError::Memory) => return Err(ReadError::Memory),
-        };
+        let count = desk.read(&mut piece)?;
         if count == 0 {
             return Ok(text);
         }
         if count > limit - text.len() {
             return Err(ReadError::TooLong);
         }
-        if text.extend_from_slice(&piece[..count]).is_err() {
-            return Err(ReadError::Memory);
-        }
+        text.extend_from_slice(&piece[..count])?;
     }
     unreachable!()
 }
