@@ -1,9 +1,10 @@
 // The desk of the system: its files, standard output and standard error.
-ghost use Rattle.std.specs.Prelude.{◌≡◌, ◌≤◌, ◌+◌, ◌-◌, ◌^◌, min, IsNone};
-ghost use Rattle.desk_io.specs.Desk.{Rose};
+ghost use Rattle.std.specs.Prelude.{◌≡◌, ◌+◌, ◌-◌, ◌^◌, min, if◌then◌else◌, is_ok, IfOk, IsNone};
+ghost use Rattle.desk_io.specs.Desk.{HasCause};
 
 use crate::{Desk, DeskError};
 use std::fs;
+use std::io;
 use std::io::{ErrorKind, Read, Write};
 use std::rt::Files;
 use std::str;
@@ -53,15 +54,19 @@ impl<'a, R: Files + Print + Eprint> StdDesk<'a, R> {
     }
 }
 
-// Counts a fault.
-fn fault(faults: &mut u64) -> DeskError
-    ensures error { result ≡ DeskError.Fault }
-    ensures count { faults.new ≡ min (faults.old + 1) (2 ^ 64 - 1) }
-    ensures later { faults.old ≤ faults.new }
-    ensures rose { Rose faults.old faults.new }
+// The system's answer, with an error counted as a fault.
+fn counted<T: Drop>(answer: io::Result<T>, faults: &mut u64) -> Result<T, DeskError>
+    ensures value { IfOk result (λ value. answer ≡ Ok value) }
+    ensures cause { HasCause faults.old faults.new result }
+    ensures count { faults.new ≡ (if is_ok answer then faults.old else min (faults.old + 1) (2 ^ 64 - 1)) }
 {
-    *faults = faults.saturating_add(1);
-    DeskError::Fault
+    match answer {
+        Ok(value) => Ok(value),
+        Err(_) => {
+            *faults = faults.saturating_add(1);
+            Err(DeskError::Fault)
+        }
+    }
 }
 
 impl<R: Files + Print + Eprint> Desk for StdDesk<'_, R> {
@@ -77,82 +82,56 @@ impl<R: Files + Print + Eprint> Desk for StdDesk<'_, R> {
     ghost faults = { λ d. d.faults };
 
     fn open(&mut self, name: &str) -> Result<bool, DeskError> {
-        match fs::open(self.rt, name) {
-            Ok(file) => {
-                self.reading = Some(file);
-                self.taken = 0;
-                Ok(true)
-            }
-            Err(e) => {
-                if e.kind() == ErrorKind::NotFound {
-                    self.reading = None;
-                    self.taken = 0;
-                    Ok(false)
-                } else {
-                    Err(fault(&mut self.faults))
-                }
-            }
-        }
+        let file = match fs::open(self.rt, name) {
+            Err(e) if e.kind() == ErrorKind::NotFound => None,
+            opened => Some(counted(opened, &mut self.faults)?),
+        };
+        let found = file.is_some();
+        self.reading = file;
+        self.taken = 0;
+        Ok(found)
     }
 
     fn read(&mut self, into: &mut [u8]) -> Result<usize, DeskError> {
         let Some(file) = &mut self.reading else {
             unreachable!()
         };
-        match file.read(into) {
-            Ok(count) => {
-                self.taken = self.taken.saturating_add(count as u64);
-                Ok(count)
-            }
-            Err(_) => Err(fault(&mut self.faults)),
-        }
+        let count = counted(file.read(into), &mut self.faults)?;
+        self.taken = self.taken.saturating_add(count as u64);
+        Ok(count)
     }
 
     fn create(&mut self, name: &str) -> Result<(), DeskError> {
-        match fs::create(self.rt, name) {
-            Ok(file) => {
-                self.writing = Some(file);
-                Ok(())
-            }
-            Err(_) => Err(fault(&mut self.faults)),
-        }
+        let file = counted(fs::create(self.rt, name), &mut self.faults)?;
+        self.writing = Some(file);
+        Ok(())
     }
 
     fn write(&mut self, bytes: &[u8]) -> Result<(), DeskError> {
         let Some(file) = &mut self.writing else {
             unreachable!()
         };
-        match file.write_all(bytes) {
-            Ok(()) => Ok(()),
-            Err(_) => Err(fault(&mut self.faults)),
-        }
+        counted(file.write_all(bytes), &mut self.faults)
     }
 
     fn finish(&mut self) -> Result<(), DeskError> {
         let Some(file) = &mut self.writing else {
             unreachable!()
         };
-        match file.flush() {
-            Ok(()) => {
-                self.writing = None;
-                Ok(())
-            }
-            Err(_) => Err(fault(&mut self.faults)),
-        }
+        counted(file.flush(), &mut self.faults)?;
+        self.writing = None;
+        Ok(())
     }
 
     fn say(&mut self, bytes: &[u8]) -> Result<(), DeskError> {
         let said = if bytes.starts_with(TO_STANDARD_ERROR) {
             match str::from_utf8(bytes) {
                 Ok(text) => self.rt.eprint(text),
-                Err(_) => return Err(fault(&mut self.faults)),
+                Err(_) => Err(io::Error::from(ErrorKind::InvalidData)),
             }
         } else {
             self.rt.write_all(bytes)
         };
-        match said {
-            Ok(()) => Ok(()),
-            Err(_) => Err(fault(&mut self.faults)),
-        }
+        counted(said, &mut self.faults)
     }
 }
