@@ -1,10 +1,10 @@
 -- A file that is written piece by piece.
-use Rattle.std.proofs.Common.{◌≡◌, ◌≤◌, ◌+◌, ◌++◌, ℕ, Bool, List, [], length, take, drop, Some, Ok, Err, Result, refl, ap, ◌∙◌, sym, append_assoc, append-nil, ◌-◌, arith, subst, true, false, inl, inr}
+use Rattle.std.proofs.Common.{◌≡◌, ◌≤◌, ◌+◌, ◌++◌, ℕ, List, [], length, take, drop, Some, Ok, Err, Result, refl, ap, ◌∙◌, sym, append_assoc, append-nil, ◌-◌, arith, subst, false, inr}
 use Rattle.std.proofs.Math.Seq.{take-add}
 use Rattle.std.proofs.lemmas.List.{take-append-drop, take_all}
-use Rattle.desk_io.specs.Content.{File, Content, SameBut, KeepsAll, IsFront}
+use Rattle.desk_io.specs.Content.{Content, SameBut}
 use Rattle.desk_io.specs.Desk.{Creates, Writes, Finishes}
-use Rattle.desk_io.specs.Whole.{WritesFile, HoldsPart}
+use Rattle.desk_io.specs.Whole.{WritesFile}
 use Rattle.desk_io.specs.declared.desk.DeskError.{DeskError}
 
 -- the file that is written holds this, and all else is as before
@@ -34,7 +34,7 @@ cut_short name part piece rest text old now new e so split h =
     let whole : text ≡ (part ++ left.0) ++ (((left.1).0) ++ rest) = rw (split, (left.1).1, append_assoc, append_assoc, append_assoc) refl in
     record {
       said = h.said ∙ so.said;
-  left = h.left ∙ so.left;
+      left = h.left ∙ so.left;
       others = λ other differs. h.others other (λ same. differs (same ∙ so.current)) ∙ so.others other differs;
       whole = tt;
       part = inr (part ++ left.0, ((left.1).0 ++ rest, whole), ap new.files (sym so.current) ∙ left.2);

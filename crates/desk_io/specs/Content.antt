@@ -1,5 +1,5 @@
 -- What a desk holds and tells.
-use Rattle.std.specs.Prelude.{◌≡◌, ◌≢◌, ◌++◌, ◌+◌, ◌-◌, ◌^◌, ℕ, Bool, true, false, List, [], min, Some, None, Option}
+use Rattle.std.specs.Prelude.{◌≡◌, ◌≢◌, ◌++◌, ◌+◌, ◌-◌, ◌^◌, ℕ, Bool, false, List, [], min, None, Option}
 
 -- A file, and whether it was finished since it was created.
 pub record File : Type 0 where

@@ -4,6 +4,8 @@
 mod desk;
 mod memory;
 mod standard;
+#[cfg(test)]
+mod tests;
 mod whole;
 
 pub use desk::{Desk, DeskError};

@@ -3,11 +3,9 @@ ghost use Rattle.std.specs.Prelude.{◌≡◌, ◌+◌, ◌-◌, ◌^◌, min, i
 ghost use Rattle.desk_io.specs.Desk.{HasCause};
 
 use crate::{Desk, DeskError};
-use std::fs;
-use std::io;
 use std::io::{ErrorKind, Read, Write};
 use std::rt::Files;
-use std::str;
+use std::{fs, io, str};
 
 const TO_STANDARD_ERROR: &[u8] = b"snxcomb: ";
 

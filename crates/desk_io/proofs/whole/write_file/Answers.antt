@@ -1,4 +1,4 @@
-use Rattle.std.proofs.Common.{◌≡◌, ◌≤◌, ◌+◌, ◌-◌, arith, refl, take, drop, length}
+use Rattle.std.proofs.Common.{◌≤◌, ◌+◌, arith, drop, length}
 use Rattle.std.proofs.lemmas.Result.{err_from_is_err_and}
 use Rattle.desk_io.proofs.WholeFiles.{written_to, cut_short, ended_at, three_parts}
 use Rattle.desk_io.proofs.whole.write_file.Goals as goal
