@@ -1,0 +1,4 @@
+pub mod Content
+pub mod Desk
+pub mod MemDesk
+pub mod Whole
