@@ -32,6 +32,13 @@ pub(crate) fn made(mant: i128, exp: i32) -> Dec
 }
 
 impl Dec {
+    /// The number zero.
+    pub fn zero() -> Dec
+        ensures { result ≡ record { mant = pos 0; exp = pos 0 } }
+    {
+        made(0, 0)
+    }
+
     /// The whole number in front of the power of ten.
     pub fn mant(&self) -> i128
         ensures value { result ≡ self.now.mant }

@@ -1,0 +1,14 @@
+-- Decimals as fractions of whole numbers.
+use Rattle.std.specs.Prelude.{ℕ, ℤ, pos, ◌*ℤ◌, ◌*◌, ◌≤◌, unsigned_abs}
+use Rattle.decimal_e.specs.Decimals.{Decimal, ten_above, ten_below}
+
+-- what stands above the line, and below it
+abbrev pub numerator : Decimal → ℤ
+numerator d = d.mant *ℤ pos (ten_above d.exp)
+
+abbrev pub denominator : Decimal → ℕ
+denominator d = ten_below d.exp
+
+-- at most the number in size
+abbrev pub IsAtMost : ℕ → Decimal → Type 0
+IsAtMost most d = unsigned_abs (numerator d) ≤ most * denominator d
