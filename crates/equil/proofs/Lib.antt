@@ -1,1 +1,2 @@
 pub mod Hundreds
+pub mod RowLaws

@@ -1,2 +1,4 @@
 pub mod Exponents
+pub mod Refusals
+pub mod Rows
 pub mod Tables

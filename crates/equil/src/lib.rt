@@ -2,7 +2,20 @@
 //! high end between 2^60 / 100 and 2^60.
 #![tactic(auto)]
 
+use thiserror::Error;
+
 mod powers;
 mod scaling;
 
 pub use powers::exponent;
+
+/// Why a table has no working table.
+#[derive(Clone, Copy, Debug, PartialEq, Eq, Error)]
+pub enum EquilError {
+    /// The word at this row and column passes its bound. A word of the right side has them equal.
+    #[error("row {row}, column {col} passes its bound")]
+    Range { row: usize, col: usize },
+    /// Memory is wanting.
+    #[error("out of memory")]
+    Memory,
+}
