@@ -1,2 +1,3 @@
 pub mod Hundreds
 pub mod RowLaws
+pub mod WorkingLaws

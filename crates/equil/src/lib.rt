@@ -4,10 +4,14 @@
 
 use thiserror::Error;
 
+mod making;
 mod powers;
 mod scaling;
+mod tables;
 
 pub use powers::exponent;
+pub use making::working;
+pub use tables::Working;
 
 /// Why a table has no working table.
 #[derive(Clone, Copy, Debug, PartialEq, Eq, Error)]

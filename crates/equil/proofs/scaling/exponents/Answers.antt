@@ -1,4 +1,4 @@
-use Rattle.std.proofs.Common.{◌≡◌, ◌++◌, ◌∷◌, ◌+◌, [], ◌∙◌, ap, length, pos, arith, rules, subst, sym, FitsSigned, w32}
+use Rattle.std.proofs.Common.{◌≡◌, ◌++◌, ◌∷◌, ◌+◌, [], List, ℤ, ◌∙◌, ap, length, pos, arith, rules, subst, sym, FitsSigned, w32}
 use Rattle.std.specs.Int.{w128}
 use Rattle.std.specs.Vec.{vec_len}
 use Rattle.std.proofs.lemmas.Int.{ints, to_z-of_z}
@@ -20,6 +20,6 @@ loop-i-preserved g c =
     let before : length c.loop-i.e.items ≡ c.loop-i.i = omega (arith, c.loop-i.invariant.len, c.loop-i.e.ok.0) in
     record {
       len = omega (arith, c.in_ok-push.ensures.len, c.loop-i.invariant.len);
-      are = subst (λ xs. AreExponents (c.loop-i.i + 1) (word c.args.table.now) (exponent_of xs)) (sym items) (each_push (λ k x. IsExponent (word c.args.table.now k k).hi x) c.loop-i.e.items c.loop-i.i c.exponent.result (pos 0) before c.loop-i.invariant.are last);
-      range = subst AllInRange (sym items) (range_push c.loop-i.e.items c.exponent.result c.loop-i.invariant.range c.exponent.ensures.range);
+      are = subst (λ xs. AreExponents (c.loop-i.i + 1) (word c.args.table.now) (exponent_of xs)) (sym {A = List ℤ} items) (each_push (λ k x. IsExponent (word c.args.table.now k k).hi x) c.loop-i.e.items c.loop-i.i c.exponent.result (pos 0) before c.loop-i.invariant.are last);
+      range = subst AllInRange (sym {A = List ℤ} items) (range_push c.loop-i.e.items c.exponent.result c.loop-i.invariant.range c.exponent.ensures.range);
     }
