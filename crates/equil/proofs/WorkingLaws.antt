@@ -24,7 +24,7 @@ pub past_right : (t a : SymTable) (ds : List Word) (es fs gs : List ℤ) → fs 
 past_right t a ds es fs gs same other len are scaled x h =
     let s = subst (λ l. AreScaled t.size a (word t) (exponent_of l)) same scaled in
     range_weaker (λ r c. (r ≡ c) × IsFirstRight t.size (λ k. slice_index_or ds k zero_word) (exponent_of es) r) (IsFirstPast t.size (table_of t ds)) (λ r c p. record { e = exponent_of es; exponents = are; first = inr (p.0, s.fit, p.1) }) x
-      (subst (λ l. IfRange (λ r c. (r ≡ c) × IsFirstRight t.size (λ k. slice_index_or ds k zero_word) (exponent_of l) r) x) other (subst (λ n. IfRange (λ r c. (r ≡ c) × IsFirstRight n (λ k. slice_index_or ds k zero_word) (exponent_of gs) r) x) len h))
+    (subst (λ l. IfRange (λ r c. (r ≡ c) × IsFirstRight t.size (λ k. slice_index_or ds k zero_word) (exponent_of l) r) x) other (subst (λ n. IfRange (λ r c. (r ≡ c) × IsFirstRight n (λ k. slice_index_or ds k zero_word) (exponent_of gs) r) x) len h))
 
 entry_sym : (t : SymTable) (e : ℕ → ℤ) (i j : ℕ) → working_entry (word t) e i j ≡ working_entry (word t) e j i
 entry_sym t e i j =

@@ -68,10 +68,7 @@ fn right_at(right: &[Iv], i: usize) -> Iv
 }
 
 /// The exponents of the diagonal.
-pub fn exponents<const N: usize>(
-    alloc: Global,
-    table: &SymBlock<N>,
-) -> Result<Vec<i32>, AllocError>
+pub fn exponents<const N: usize>(alloc: Global, table: &SymBlock<N>) -> Result<Vec<i32>, AllocError>
     ensures len { IfOk result (λ e. vec_len e ≡ table.now.size) }
     ensures are { IfOk result (λ e. AreExponents table.now.size (word table.now) (exponent_of e.items)) }
     ensures range { IfOk result (λ e. AllInRange e.items) }
@@ -156,11 +153,7 @@ fn right_scaled(right: &[Iv], e: &[i32], i: usize) -> Option<Iv>
 }
 
 /// The working words of the right side. Range comes exactly where one passes its bound, with the first.
-pub fn scaled_right(
-    alloc: Global,
-    right: &[Iv],
-    e: &[i32],
-) -> Result<Vec<Iv>, EquilError>
+pub fn scaled_right(alloc: Global, right: &[Iv], e: &[i32]) -> Result<Vec<Iv>, EquilError>
     requires len { length e.now ≡ length right.now }
     requires range { AllInRange e.now }
     ensures len { IfOk result (λ d. vec_len d ≡ length right.now) }

@@ -26,4 +26,3 @@ pub struct Working<const N: usize> {
     ghost right_small: { (i : ℕ) → i < a.size → size (slice_index_or d.items i zero_word) ≤ 10 ^ 37 },
     ghost in_range: { AllInRange e.items },
 }
-
