@@ -6,6 +6,7 @@ ghost use Rattle.whole_numbers.specs.Words.{Word, size};
 ghost use Rattle.sym_blocks.specs.Tables.{SymTable, word, zero_word};
 ghost use Rattle.equil.specs.Refusals.{IfRange};
 ghost use Rattle.equil.specs.Rows.{AllInRange};
+ghost use Rattle.equil.specs.Scaled.{CarriesSystems};
 ghost use Rattle.equil.specs.Tables.{table_of, exponent_of, IsWorking, IsFirstPast};
 
 use crate::EquilError;
@@ -25,6 +26,7 @@ pub fn working<const N: usize>(
     requires { length right.now ≡ table.now.size }
     ensures size { IfOk result (λ w. w.a.size ≡ table.now.size) }
     ensures working { IfOk result (λ w. IsWorking table.now.size (table_of table.now right.now) (table_of w.a w.d.items) (exponent_of w.e.items)) }
+    ensures systems { IfOk result (λ w. CarriesSystems table.now.size (table_of table.now right.now) (table_of w.a w.d.items) (exponent_of w.e.items)) }
     ensures past { IfErr result (IfRange (IsFirstPast table.now.size (table_of table.now right.now))) }
 {
     let e = match exponents(alloc, table) {
