@@ -1,0 +1,4 @@
+pub mod Hundreds
+pub mod RowLaws
+pub mod ScaledLaws
+pub mod WorkingLaws

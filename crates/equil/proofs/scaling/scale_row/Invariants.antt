@@ -1,0 +1,12 @@
+use Rattle.std.proofs.Common.{◌≡◌}
+use Rattle.sym_blocks.specs.Tables.{word}
+use Rattle.equil.specs.Rows.{IsRowScaled, KeepsRows}
+use Rattle.equil.specs.Tables.{exponent_of}
+use Rattle.equil.proofs.scaling.scale_row.Given as goal
+
+abbrev pub invariant-loop-j : goal.invariant-loop-j
+invariant-loop-j g l = record {
+  same : l.a.size ≡ l.fn.a.size;
+  kept : KeepsRows l.i l.fn.a l.a;
+  done : IsRowScaled l.i l.j l.a (word l.table) (exponent_of l.e);
+}

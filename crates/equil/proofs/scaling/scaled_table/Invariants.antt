@@ -1,0 +1,11 @@
+use Rattle.std.proofs.Common.{◌≡◌}
+use Rattle.sym_blocks.specs.Tables.{word}
+use Rattle.equil.specs.Rows.{AreScaled}
+use Rattle.equil.specs.Tables.{exponent_of}
+use Rattle.equil.proofs.scaling.scaled_table.Given as goal
+
+abbrev pub invariant-loop-row : goal.invariant-loop-row
+invariant-loop-row g l = record {
+  same : l.a.size ≡ l.table.size;
+  done : AreScaled l.row l.a (word l.table) (exponent_of l.e);
+}

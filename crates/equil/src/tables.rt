@@ -1,0 +1,28 @@
+//! The type of a working table.
+
+ghost use Rattle.std.specs.Prelude.{◌≡◌, ◌≤◌, ◌<◌, ◌^◌, ℕ, ℤ, slice_index_or};
+ghost use Rattle.std.specs.Vec.{vec_len};
+ghost use Rattle.whole_numbers.specs.Words.{Word, size};
+ghost use Rattle.sym_blocks.specs.Tables.{SymTable, word, zero_word};
+ghost use Rattle.equil.specs.Rows.{AllInRange};
+
+use interval_word::Iv;
+use sym_blocks::SymBlock;
+
+/// A table, a right side and their exponents, within the sizes that later sums need: the words of the table are
+/// at most 2^61 in size, those of the right side at most 10^37, and the exponents lie from -9 to 11.
+#[derive(Drop)]
+pub struct Working<const N: usize> {
+    /// The table, word (i, j) times 10^(-e_i - e_j).
+    pub a: SymBlock<N>,
+    /// The right side, word i times 10^(12 - e_i).
+    pub d: Vec<Iv>,
+    /// The exponents.
+    pub e: Vec<i32>,
+    ghost few: { a.size ≤ 1000 },
+    ghost rows: { vec_len d ≡ a.size },
+    ghost powers: { vec_len e ≡ a.size },
+    ghost words_small: { (i j : ℕ) → i < a.size → j < a.size → size (word a i j) ≤ 2 ^ 61 },
+    ghost right_small: { (i : ℕ) → i < a.size → size (slice_index_or d.items i zero_word) ≤ 10 ^ 37 },
+    ghost in_range: { AllInRange e.items },
+}
