@@ -1,0 +1,4 @@
+pub mod Cutting
+pub mod Elements
+pub mod Modest
+pub mod Readings
