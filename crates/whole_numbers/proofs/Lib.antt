@@ -1,4 +1,5 @@
 pub mod Division
+pub mod EqualFractions
 pub mod Fits
 pub mod Fractions
 pub mod LeastLaws
@@ -6,5 +7,6 @@ pub mod Powers
 pub mod Products
 pub mod Ring
 pub mod Scaled
+pub mod Sizes
 pub mod Sums
 pub mod WordLaws
