@@ -1,7 +1,7 @@
 -- What a numeral is worth, and that a text has one answer.
-use Rattle.std.proofs.Common.{◌≡◌, ◌≢◌, ℕ, zero, suc, ℤ, pos, negsuc, ◌+ℤ◌, ◌*ℤ◌, ◌≤ℤ◌, ◌<ℤ◌, ◌+◌, ◌*◌, ◌%◌, ◌≤◌, ◌<◌, ◌^◌, List, [], ◌∷◌, ◌++◌, length, min, unsigned_abs, refl, ap, sym, ◌∙◌, ◌⊎◌, inl, inr, arith, subst, Result, Ok, Err, true, false}
+use Rattle.std.proofs.Common.{◌≡◌, ◌≢◌, ℕ, ℤ, pos, negsuc, ◌+ℤ◌, ◌*ℤ◌, ◌<ℤ◌, ◌*◌, ◌%◌, ◌≤◌, ◌<◌, ◌^◌, List, [], ◌∷◌, length, min, unsigned_abs, refl, ap, sym, ◌∙◌, ◌⊎◌, inl, inr, arith, subst, Result, Ok, Err}
 use Rattle.std.proofs.Math.IntN.{◌-ℤ◌}
-use Rattle.std.proofs.lemmas.Int.{ints, unsigned_abs-mul}
+use Rattle.std.proofs.lemmas.Int.{ints}
 use Rattle.std.proofs.lemmas.Bool.{cases_lt}
 use Rattle.std.proofs.Math.Decide.{dec_lt}
 use Rattle.whole_numbers.proofs.Ring.{*ℤ_assoc}
@@ -9,12 +9,12 @@ use Rattle.decimal_e.specs.declared.cut.Kind.TheVariants.{Blank, Digit}
 use Rattle.decimal_e.specs.declared.digits.Tally.{Tally}
 use Rattle.decimal_e.specs.declared.read.DecFault.{DecFault}
 use Rattle.decimal_e.specs.declared.read.DecFault.TheVariants.{Empty, Char, Digits, Exponent}
-use Rattle.decimal_e.specs.Decimals.{Decimal, SameValue, IsCanonical, IsCanonicalOf, IsBounded}
-use Rattle.decimal_e.specs.Digits.{number, IsTooLong}
-use Rattle.decimal_e.specs.Grammar.{IsRun, IsMantissa, Mantissa, Numeral, Spells, IsMember, IsLongestBeginning, mantissa_text, sign_of, digits_of, value_of}
+use Rattle.decimal_e.specs.Decimals.{Decimal, SameValue, IsCanonicalOf}
+use Rattle.decimal_e.specs.Digits.{number}
+use Rattle.decimal_e.specs.Grammar.{IsRun, Numeral, Spells, IsMember, IsLongestBeginning, sign_of, digits_of, value_of}
 use Rattle.decimal_e.specs.Tallies.{Tallies}
-use Rattle.decimal_e.specs.Answers.{IsAnswer, IsFault, IsValue, IsFarOut, IsReadable}
-use Rattle.decimal_e.proofs.Pieces.{index, apart, run_left, run_right, one_numeral_of, left_nil}
+use Rattle.decimal_e.specs.Answers.{IsAnswer, IsValue, IsFarOut, IsReadable}
+use Rattle.decimal_e.proofs.Pieces.{apart, run_left, run_right, one_numeral_of, left_nil}
 use Rattle.decimal_e.proofs.Values.{same_shift, one_form, zero_form}
 
 signs : (s : List ℕ) → (sign_of s ≡ pos 1) ⊎ (sign_of s ≡ negsuc 0)

@@ -1,6 +1,5 @@
 -- What a text cut into its pieces tells: the pieces are the only ones.
-use Rattle.std.proofs.Common.{◌≡◌, ◌≢◌, ℕ, suc, zero, ◌+◌, ◌-◌, ◌≤◌, ◌<◌, List, [], ◌∷◌, ◌++◌, length, take, refl, ap, sym, subst, ◌∙◌, ◌⊎◌, inl, inr, arith, append_assoc}
-use Rattle.std.specs.List.{AllByRecursion}
+use Rattle.std.proofs.Common.{◌≡◌, ◌≢◌, ℕ, List, [], ◌∷◌, ◌++◌, refl, ap, sym, subst, ◌∙◌, arith}
 use Rattle.decimal_e.specs.declared.cut.Kind.{Kind}
 use Rattle.decimal_e.specs.declared.cut.Kind.TheVariants.{Blank, Sign, Digit, Point, Letter}
 use Rattle.decimal_e.specs.Grammar.{Is, IsRun, IsOptional, Mantissa, Power, Numeral, mantissa_text, power_text, IsMantissa, IsPower, Spells}
@@ -138,7 +137,7 @@ power_cuts p after h r = record {
     whole = refl;
     optional = h.letter;
     stop = λ e. not_begun Sign Letter p.sign (p.digits ++ after) (omega arith) h.sign.1 (λ f. let d = h.none (left_nil p.letter p.sign e f) in
-    rw d (blanks_begin_not Letter after r (omega arith)));
+        rw d (blanks_begin_not Letter after r (omega arith)));
   };
   sign = record {
     whole = refl;
@@ -154,7 +153,7 @@ mantissa_cuts m rest h digit point = record {
     whole = refl;
     optional = h.sign;
     stop = λ _. not_begun Digit Sign m.whole (m.point ++ (m.fraction ++ rest)) (omega arith) h.whole (λ e.
-      not_begun Point Sign m.point (m.fraction ++ rest) (omega arith) h.point.1 (λ f. absurd (h.some (left_nil m.whole m.fraction e (h.behind f)))));
+        not_begun Point Sign m.point (m.fraction ++ rest) (omega arith) h.point.1 (λ f. absurd (h.some (left_nil m.whole m.fraction e (h.behind f)))));
   };
   whole = record {
     whole = refl;
@@ -182,8 +181,8 @@ pub spelled_cuts : (n : Numeral) (text : List ℕ) (s : Spells n text) → Cuts 
 spelled_cuts n text s = record {
   blanks = record { whole = s.whole; run = s.blank_before; stop = mantissa_begins_not n.mantissa (power_text n.power s.after) s.mantissa };
   mantissa = mantissa_cuts n.mantissa (power_text n.power s.after) s.mantissa
-    (power_begins_not Digit n.power s.after s.power s.blank_after (omega arith) (omega arith) (omega arith))
-    (power_begins_not Point n.power s.after s.power s.blank_after (omega arith) (omega arith) (omega arith));
+      (power_begins_not Digit n.power s.after s.power s.blank_after (omega arith) (omega arith) (omega arith))
+      (power_begins_not Point n.power s.after s.power s.blank_after (omega arith) (omega arith) (omega arith));
   power = power_cuts n.power s.after s.power s.blank_after;
 }
 

@@ -1,13 +1,13 @@
 -- Where a text leaves the grammar.
-use Rattle.std.proofs.Common.{◌≡◌, ◌≢◌, ℕ, zero, suc, ◌+◌, ◌-◌, ◌≤◌, ◌<◌, List, [], ◌∷◌, ◌++◌, length, take, refl, ap, sym, subst, ◌∙◌, ◌⊎◌, inl, inr, arith, append_assoc, length-append}
+use Rattle.std.proofs.Common.{◌≡◌, ◌≢◌, ℕ, zero, suc, ◌-◌, ◌≤◌, ◌<◌, List, [], ◌∷◌, ◌++◌, length, take, refl, ap, sym, subst, ◌∙◌, arith, append_assoc, length-append}
 use Rattle.std.proofs.lemmas.List.{append-nil, take_at}
 use Rattle.decimal_e.specs.declared.cut.Kind.{Kind}
-use Rattle.decimal_e.specs.declared.cut.Kind.TheVariants.{Blank, Sign, Digit, Point, Letter}
+use Rattle.decimal_e.specs.declared.cut.Kind.TheVariants.{Blank, Sign, Digit, Point}
 use Rattle.decimal_e.specs.declared.read.DecFault.TheVariants.{Char}
-use Rattle.decimal_e.specs.Grammar.{Is, IsRun, IsOptional, Mantissa, Power, Numeral, mantissa_text, power_text, IsMantissa, IsPower, Spells, IsMember, IsBeginning, IsLongestBeginning}
+use Rattle.decimal_e.specs.Grammar.{IsRun, IsOptional, Mantissa, Power, Numeral, mantissa_text, power_text, IsMantissa, IsPower, Spells, IsMember, IsBeginning}
 use Rattle.decimal_e.specs.Cuts.{Begins, CutsRun, CutsOptional, CutsMantissa, CutsPower}
 use Rattle.decimal_e.specs.Answers.{IsFault}
-use Rattle.decimal_e.proofs.Pieces.{index, apart, run_same, mantissa_same, power_same, spelled_cuts, left_nil, run_right, cuts_mantissa_of, cuts_power_of}
+use Rattle.decimal_e.proofs.Pieces.{run_same, mantissa_same, power_same, spelled_cuts, run_right, cuts_mantissa_of, cuts_power_of}
 
 -- the tail begins as the rest does: with no other kind of byte, and with one if the rest does
 pub record Follows (rest tail : List ℕ) : Type 0 where
@@ -53,15 +53,18 @@ follows_front (x ∷ xs) more (suc j) l h = record { kinds = λ k b. b; some = �
 pub char_fault : (text front rest : List ℕ) (n : ℕ) → text ≡ front ++ rest → n ≡ length text - length rest → (IsRun Blank text → ⊥) → IsBeginning front
     → ((tail : List ℕ) → Follows rest tail → IsMember (front ++ tail) → ⊥) → IsFault text (Char n)
 char_fault text front rest n whole place some begins stuck =
-    let at : length front ≡ n = omega (arith, ap length whole, length-append front rest) in
-    (some, λ m. stuck rest (record { kinds = λ k h. h; some = λ e. e }) (subst IsMember whole m), record {
-      within = omega arith;
-      begins = subst IsBeginning (sym (ap (take n) whole ∙ take_at front rest n at)) begins;
-      longest = λ k l h b.
-        let r = behind front rest k (omega arith) (omega (arith, ap length whole)) in
-        let same = ap (take k) whole ∙ r.1.2 in
-        stuck (take r.0 rest ++ b.0) (follows_front rest b.0 r.0 r.1.0 r.1.1) (subst IsMember (ap (λ t. t ++ b.0) same ∙ append_assoc front (take r.0 rest) b.0) b.1);
-    })
+    let at : length front ≡ n = omega (arith, ap length whole, length-append front rest) in (
+      some,
+      λ m. stuck rest (record { kinds = λ k h. h; some = λ e. e }) (subst IsMember whole m),
+      record {
+        within = omega arith;
+        begins = subst IsBeginning (sym (ap (take n) whole ∙ take_at front rest n at)) begins;
+        longest = λ k l h b.
+            let r = behind front rest k (omega arith) (omega (arith, ap length whole)) in
+            let same = ap (take k) whole ∙ r.1.2 in
+            stuck (take r.0 rest ++ b.0) (follows_front rest b.0 r.0 r.1.0 r.1.1) (subst IsMember (ap (λ t. t ++ b.0) same ∙ append_assoc front (take r.0 rest) b.0) b.1);
+      },
+    )
 
 -- ---- the pieces of a text that has been cut so far
 pub mantissa_text_append : (m : Mantissa) (xs ys : List ℕ) → mantissa_text m xs ++ ys ≡ mantissa_text m (xs ++ ys)
@@ -138,24 +141,30 @@ no_power : IsPower (record { letter = []; sign = []; digits = [] })
 no_power = record { letter = (omega arith, tt); sign = (omega arith, tt); digits = tt; none = λ e. refl; some = λ n. absurd (n refl) }
 
 zero_member : (f sign point : List ℕ) → IsRun Blank f → IsOptional Sign sign → IsOptional Point point → IsMember (f ++ (sign ++ (point ++ 48 ∷ [])))
-zero_member f sign [] b s p = (record { mantissa = record { sign = sign; whole = 48 ∷ []; point = []; fraction = [] }; power = record { letter = []; sign = []; digits = [] } }, record {
-  before = f;
-  after = [];
-  whole = refl;
-  blank_before = b;
-  blank_after = tt;
-  mantissa = record { sign = s; whole = ((omega arith, omega arith), tt); point = p; fraction = tt; behind = λ e. refl; some = λ e. cc };
-  power = no_power;
-})
-zero_member f sign (x ∷ xs) b s p = (record { mantissa = record { sign = sign; whole = []; point = x ∷ xs; fraction = 48 ∷ [] }; power = record { letter = []; sign = []; digits = [] } }, record {
-  before = f;
-  after = [];
-  whole = refl;
-  blank_before = b;
-  blank_after = tt;
-  mantissa = record { sign = s; whole = tt; point = p; fraction = ((omega arith, omega arith), tt); behind = λ e. absurd cc; some = λ e. cc };
-  power = no_power;
-})
+zero_member f sign [] b s p = (
+  record { mantissa = record { sign = sign; whole = 48 ∷ []; point = []; fraction = [] }; power = record { letter = []; sign = []; digits = [] } },
+  record {
+    before = f;
+    after = [];
+    whole = refl;
+    blank_before = b;
+    blank_after = tt;
+    mantissa = record { sign = s; whole = ((omega arith, omega arith), tt); point = p; fraction = tt; behind = λ e. refl; some = λ e. cc };
+    power = no_power;
+  },
+)
+zero_member f sign (x ∷ xs) b s p = (
+  record { mantissa = record { sign = sign; whole = []; point = x ∷ xs; fraction = 48 ∷ [] }; power = record { letter = []; sign = []; digits = [] } },
+  record {
+    before = f;
+    after = [];
+    whole = refl;
+    blank_before = b;
+    blank_after = tt;
+    mantissa = record { sign = s; whole = tt; point = p; fraction = ((omega arith, omega arith), tt); behind = λ e. absurd cc; some = λ e. cc };
+    power = no_power;
+  },
+)
 
 pub fault_mantissa : (text f r : List ℕ) (m : Mantissa) (rest : List ℕ) (n : ℕ) → CutsRun Blank text f r → r ≢ [] → CutsMantissa r m rest → m.whole ++ m.fraction ≡ [] → n ≡ length text - length rest → IsFault text (Char n)
 fault_mantissa text f r m rest n c ne d none place =
@@ -174,16 +183,21 @@ fault_power text f r m q p rest n c ne d some e begun none place =
     let front : (tail : List ℕ) → (f ++ mantissa_text m (power_text p [])) ++ tail ≡ f ++ mantissa_text m (power_text p tail) = λ tail. front_text f m (power_text p []) tail ∙ ap (λ t. f ++ mantissa_text m t) (power_text_append p [] tail) in
     let zero : Power = record { letter = p.letter; sign = p.sign; digits = 48 ∷ [] } in
     let bare : power_text p (48 ∷ []) ≡ power_text zero [] = rw none refl in
-    char_fault text (f ++ mantissa_text m (power_text p [])) rest n (whole ∙ sym (front rest)) place (some_left text f r c ne)
-    (48 ∷ [], (record { mantissa = m; power = zero }, record {
-      before = f;
-      after = [];
-      whole = front (48 ∷ []) ∙ ap (λ t. f ++ mantissa_text m t) bare;
-      blank_before = c.run;
-      blank_after = tt;
-      mantissa = cut_is_mantissa r m q d some;
-      power = record { letter = e.letter.optional; sign = e.sign.optional; digits = ((omega arith, omega arith), tt); none = λ z. absurd (begun z); some = λ _ z. cc };
-    }))
+    char_fault text (f ++ mantissa_text m (power_text p [])) rest n (whole ∙ sym (front rest)) place (some_left text f r c ne) (
+      48 ∷ [],
+      (
+        record { mantissa = m; power = zero },
+        record {
+          before = f;
+          after = [];
+          whole = front (48 ∷ []) ∙ ap (λ t. f ++ mantissa_text m t) bare;
+          blank_before = c.run;
+          blank_after = tt;
+          mantissa = cut_is_mantissa r m q d some;
+          power = record { letter = e.letter.optional; sign = e.sign.optional; digits = ((omega arith, omega arith), tt); none = λ z. absurd (begun z); some = λ _ z. cc };
+        },
+      ),
+    )
     (λ tail follows (k, s).
     let behind = subst (λ (t : List ℕ). Follows t (power_text p tail)) (sym (power_whole q p rest e)) (follows_power p rest tail follows) in
     let same = member_mantissa text f r m q (power_text p tail) ((f ++ mantissa_text m (power_text p [])) ++ tail) c d behind (front tail) k s in
@@ -209,16 +223,21 @@ pub fault_rest : (text f r : List ℕ) (m : Mantissa) (q : List ℕ) (p : Power)
 fault_rest text f r m q p rest g last n c ne d some e closed h more place =
     let whole = c.whole ∙ ap (λ t. f ++ t) (mantissa_whole r m q d ∙ ap (mantissa_text m) (power_whole q p rest e ∙ ap (power_text p) h.whole)) in
     let front : (tail : List ℕ) → (f ++ mantissa_text m (power_text p g)) ++ tail ≡ f ++ mantissa_text m (power_text p (g ++ tail)) = λ tail. front_text f m (power_text p g) tail ∙ ap (λ t. f ++ mantissa_text m t) (power_text_append p g tail) in
-    char_fault text (f ++ mantissa_text m (power_text p g)) last n (whole ∙ sym (front last)) place (some_left text f r c ne)
-    ([], (record { mantissa = m; power = p }, record {
-      before = f;
-      after = g;
-      whole = append-nil (f ++ mantissa_text m (power_text p g));
-      blank_before = c.run;
-      blank_after = h.run;
-      mantissa = cut_is_mantissa r m q d some;
-      power = cut_is_power q p rest e d.fraction.stop closed;
-    }))
+    char_fault text (f ++ mantissa_text m (power_text p g)) last n (whole ∙ sym (front last)) place (some_left text f r c ne) (
+      [],
+      (
+        record { mantissa = m; power = p },
+        record {
+          before = f;
+          after = g;
+          whole = append-nil (f ++ mantissa_text m (power_text p g));
+          blank_before = c.run;
+          blank_after = h.run;
+          mantissa = cut_is_mantissa r m q d some;
+          power = cut_is_power q p rest e d.fraction.stop closed;
+        },
+      ),
+    )
     (λ tail follows (k, s).
     let after = subst (λ (t : List ℕ). Follows t (g ++ tail)) (sym h.whole) (follows_behind g last tail follows) in
     let behind = subst (λ (t : List ℕ). Follows t (power_text p (g ++ tail))) (sym (power_whole q p rest e)) (follows_power p rest (g ++ tail) after) in

@@ -1,10 +1,10 @@
 -- What a tally says with one digit more.
-use Rattle.std.proofs.Common.{◌≡◌, ◌≢◌, ℕ, zero, suc, ◌+◌, ◌-◌, ◌*◌, ◌%◌, ◌≤◌, ◌<◌, ◌^◌, List, [], ◌∷◌, ◌++◌, length, get_or, refl, ap, sym, ◌∙◌, ◌⊎◌, inl, inr, arith}
+use Rattle.std.proofs.Common.{◌≡◌, ◌≢◌, ℕ, ◌+◌, ◌-◌, ◌*◌, ◌≤◌, ◌<◌, ◌^◌, List, [], ◌∷◌, ◌++◌, length, get_or, refl, ap, sym, ◌∙◌, arith}
 use Rattle.std.proofs.lemmas.List.{length_push, get_or_push, get_or_append_left}
 use Rattle.std.proofs.lemmas.Nat.{pow-add}
 use Rattle.std.proofs.Math.Decide.{dec_lt}
 use Rattle.decimal_e.specs.declared.digits.Tally.{Tally}
-use Rattle.decimal_e.specs.Digits.{number, IsTooLong}
+use Rattle.decimal_e.specs.Digits.{IsTooLong}
 use Rattle.decimal_e.specs.Tallies.{Tallies}
 use Rattle.decimal_e.proofs.Numbers.{number_push, with_digit}
 

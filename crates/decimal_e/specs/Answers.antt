@@ -1,5 +1,5 @@
 -- What `read_dec` answers to a text.
-use Rattle.std.specs.Prelude.{◌≡◌, ◌≢◌, ℕ, ℤ, pos, negsuc, ◌≤ℤ◌, ◌<◌, ◌⊎◌, List, Result, Ok, Err}
+use Rattle.std.specs.Prelude.{◌≡◌, ◌≢◌, ℕ, pos, negsuc, ◌≤ℤ◌, ◌<◌, ◌⊎◌, List, Result, Ok, Err}
 use Rattle.decimal_e.specs.Decimals.{Decimal, IsCanonicalOf}
 use Rattle.decimal_e.specs.Digits.{number, IsTooLong}
 use Rattle.decimal_e.specs.Grammar.{IsRun, Numeral, Spells, IsMember, IsLongestBeginning, digits_of, value_of}
@@ -16,7 +16,7 @@ pub record IsReadable (d : Decimal) : Type 0 where
 abbrev pub IsFarOut : Numeral → Type 0
 IsFarOut n = (999 < number n.power.digits) ⊎ ((d : Decimal) × (IsCanonicalOf d (value_of n) × ¬ (IsReadable d)))
 
--- what a numeral is: its number in canonical form, or too long, or far out
+-- What a numeral gives: its number in canonical form; or more than 18 digits from the first that is not 0 to the last that is not 0; or it is far out.
 abbrev pub IsValue : Numeral → Result Decimal DecFault → Type 0
 IsValue n (Ok d) = (¬ (IsTooLong (digits_of n.mantissa))) × (¬ (IsFarOut n)) × IsCanonicalOf d (value_of n)
 IsValue n (Err Empty) = ⊥
@@ -24,18 +24,19 @@ IsValue n (Err (Char at)) = ⊥
 IsValue n (Err Digits) = IsTooLong (digits_of n.mantissa)
 IsValue n (Err Exponent) = (¬ (IsTooLong (digits_of n.mantissa))) × IsFarOut n
 
+-- what is wrong with a text
 abbrev pub IsFault : List ℕ → DecFault → Type 0
 -- only blanks or nothing
 IsFault text Empty = IsRun Blank text
 -- not in the grammar
 IsFault text (Char at) = (¬ (IsRun Blank text)) × (¬ (IsMember text)) × IsLongestBeginning text at
--- more than 18 digits from the first that is not 0 to the last that is not 0
-IsFault text Digits = (n : Numeral) × (Spells n text × IsTooLong (digits_of n.mantissa))
-IsFault text Exponent = (n : Numeral) × (Spells n text × ((¬ (IsTooLong (digits_of n.mantissa))) × IsFarOut n))
+-- in the grammar, by a numeral that is too long or far out
+IsFault text Digits = (n : Numeral) × (Spells n text × IsValue n (Err Digits))
+IsFault text Exponent = (n : Numeral) × (Spells n text × IsValue n (Err Exponent))
 
 -- The answer to a text: the canonical form of the number that it writes, or what is wrong with it.
 abbrev pub IsAnswer : List ℕ → Result Decimal DecFault → Type 0
-IsAnswer text (Ok d) = (n : Numeral) × (Spells n text × ((¬ (IsTooLong (digits_of n.mantissa))) × (¬ (IsFarOut n)) × IsCanonicalOf d (value_of n)))
+IsAnswer text (Ok d) = (n : Numeral) × (Spells n text × IsValue n (Ok d))
 IsAnswer text (Err fault) = IsFault text fault
 
 -- The grammar is unambiguous: a text has one numeral, and one answer is right.

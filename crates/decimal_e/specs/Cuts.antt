@@ -1,6 +1,6 @@
 -- Texts cut into pieces, each as long as it can be.
 use Rattle.std.specs.Prelude.{◌≡◌, ℕ, List, [], ◌∷◌, ◌++◌}
-use Rattle.decimal_e.specs.Grammar.{Is, IsRun, IsOptional, Mantissa, Power, Numeral, mantissa_text, power_text}
+use Rattle.decimal_e.specs.Grammar.{Is, IsRun, IsOptional, Mantissa, Power, Numeral}
 use Rattle.decimal_e.specs.declared.cut.Kind.{Kind}
 use Rattle.decimal_e.specs.declared.cut.Kind.TheVariants.{Sign, Digit, Point, Letter}
 use Rattle.decimal_e.specs.declared.cut.MantissaText.{MantissaText}

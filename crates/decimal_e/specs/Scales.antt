@@ -1,5 +1,5 @@
 -- Decimals times powers of ten, rounded to whole numbers.
-use Rattle.std.specs.Prelude.{ℕ, ℤ, pos, ◌+ℤ◌, ◌*ℤ◌}
+use Rattle.std.specs.Prelude.{ℤ, pos, ◌+ℤ◌, ◌*ℤ◌}
 use Rattle.whole_numbers.specs.Scaling.{floor_scaled, ceil_scaled}
 use Rattle.whole_numbers.specs.Words.{Word, Holds}
 use Rattle.decimal_e.specs.Decimals.{Decimal, ten_above, ten_below}

@@ -1,6 +1,6 @@
-// Texts, cut into the pieces of a numeral.
+//! Texts, cut into the pieces of a numeral.
 
-ghost use Rattle.std.specs.Prelude.{◌≡◌, ℕ, ◌≤◌, ◌-◌, ◌↔◌, List, [], ◌++◌, length, take, drop, ◌≢◌, IsTrue, MatchBool, MatchResult};
+ghost use Rattle.std.specs.Prelude.{◌≡◌, ◌≢◌, ◌≤◌, ◌-◌, ◌↔◌, [], ◌++◌, length, take, drop, IsTrue, MatchBool, MatchResult};
 ghost use Rattle.decimal_e.specs.Grammar.{Is, IsRun, Spells};
 ghost use Rattle.decimal_e.specs.Cuts.{Begins, CutsRun, CutsOptional, CutsMantissa, CutsPower, mantissa_of, power_of, numeral_of};
 ghost use Rattle.decimal_e.specs.Answers.{IsFault};

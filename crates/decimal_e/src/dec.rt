@@ -1,6 +1,6 @@
-// The type of decimals.
+//! The type of decimals.
 
-ghost use Rattle.std.specs.Prelude.{◌≡◌, ◌≢◌, ℕ, ℤ, pos, negsuc, ◌+ℤ◌, ◌*ℤ◌, ◌≤ℤ◌, ◌≤◌, ◌<◌, ◌*◌, ◌^◌, ◌%◌, unsigned_abs, MatchBool, MatchOption};
+ghost use Rattle.std.specs.Prelude.{◌≡◌, ◌≢◌, pos, negsuc, ◌+ℤ◌, ◌≤ℤ◌, ◌≤◌, ◌<◌, ◌*◌, ◌^◌, ◌%◌, MatchBool, MatchOption};
 ghost use Rattle.decimal_e.specs.Decimals.{Decimal, IsCanonical, IsCanonicalOf, IsBounded, OneCanonical, OneForm, signed_like};
 
 use std::marker::Model;
@@ -128,11 +128,9 @@ fn stripped(size: u128) -> (u128, u32)
 /// Two canonical decimals with one value are one, so equality of fields is equality of numbers.
 pub fn one_canonical()
     ensures { OneCanonical }
-{
-}
+{}
 
 /// Each decimal has one canonical form.
 pub fn one_form()
     ensures { OneForm }
-{
-}
+{}

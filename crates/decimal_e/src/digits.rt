@@ -1,7 +1,7 @@
-// Digits, read as numbers.
+//! Digits, read as numbers.
 
-ghost use Rattle.std.specs.Prelude.{◌≡◌, ◌≢◌, ℕ, ◌+◌, ◌-◌, ◌*◌, ◌≤◌, ◌<◌, ◌^◌, List, [], ◌∷◌, ◌++◌, length, min};
-ghost use Rattle.decimal_e.specs.Grammar.{IsRun, Mantissa, digits_of};
+ghost use Rattle.std.specs.Prelude.{◌≡◌, ℕ, ◌+◌, ◌-◌, ◌*◌, ◌≤◌, ◌<◌, ◌^◌, List, [], ◌∷◌, ◌++◌, length, min};
+ghost use Rattle.decimal_e.specs.Grammar.{IsRun, digits_of};
 ghost use Rattle.decimal_e.specs.Cuts.{mantissa_of};
 ghost use Rattle.decimal_e.specs.Digits.{number};
 ghost use Rattle.decimal_e.specs.Tallies.{Tallies};
@@ -38,7 +38,11 @@ fn tally_digit(tally: Tally, byte: u8) -> Tally
     ensures small { result.digits ≤ 18 → result.value < 10 ^ result.digits }
 {
     if byte == b'0' {
-        let zeros = if tally.digits == 0 { 0 } else { tally.zeros + 1 };
+        let zeros = if tally.digits == 0 {
+            0
+        } else {
+            tally.zeros + 1
+        };
         return Tally { zeros, ..tally };
     }
     let value = if tally.digits + tally.zeros < 18 {

@@ -1,12 +1,12 @@
-// Decimals, read from text.
+//! Decimals, read from text.
 
-ghost use Rattle.std.specs.Prelude.{◌≡◌, ◌≢◌, ℕ, ℤ, pos, ◌+ℤ◌, ◌-ℤ◌, ◌*ℤ◌, ◌≤◌, ◌<◌, unsigned_abs, ◌^◌, List, length, Result, IsTrue, ◌↔◌};
+ghost use Rattle.std.specs.Prelude.{◌≡◌, pos, ◌+ℤ◌, ◌-ℤ◌, ◌*ℤ◌, ◌≤◌, unsigned_abs, length, Result};
 ghost use Rattle.decimal_e.specs.Decimals.{Decimal};
-ghost use Rattle.decimal_e.specs.Grammar.{IsMantissa, IsPower, sign_of, IsOptional, Numeral};
+ghost use Rattle.decimal_e.specs.Grammar.{IsMantissa, IsPower, sign_of};
 ghost use Rattle.decimal_e.specs.Cuts.{numeral_of, mantissa_of, power_of};
 ghost use Rattle.decimal_e.specs.Answers.{IsAnswer, IsValue, OneNumeral, OneAnswer};
 
-use crate::cut::{Kind, NumeralText, cut_numeral};
+use crate::cut::{NumeralText, cut_numeral};
 use crate::dec::{Dec, made};
 use crate::digits::{capped, tally_of};
 use thiserror::Error;
@@ -36,6 +36,7 @@ const GREATEST_WRITTEN: u32 = 999;
 
 /// The least and the greatest canonical exponent of a number that isn't zero.
 const LEAST_EXPONENT: i128 = -400;
+
 const GREATEST_EXPONENT: i128 = 60;
 
 // The sign's factor times the size.
@@ -84,7 +85,7 @@ fn numeral_value(numeral: &NumeralText) -> Result<Dec, DecFault>
     Ok(made(signed(numeral.mantissa.sign, tally.value), exp as i32))
 }
 
-/// Reads a decimal: blanks, an optional sign, digits with at most one point among or around them and at
+/// Reads a decimal in its canonical form: blanks, an optional sign, digits with at most one point among or around them and at
 /// least one digit, an optional exponent, blanks. A blank is a space or a tab. An exponent is one of
 /// `E e D d`, an optional sign and at least one digit, or a bare sign and at least one digit. Faults are
 /// tested in the order of [`DecFault`]. The text may have any length.
@@ -102,11 +103,9 @@ pub fn read_dec(text: &[u8]) -> Result<Dec, DecFault>
 /// The grammar is unambiguous: a text has at most one numeral.
 pub fn one_numeral()
     ensures { OneNumeral }
-{
-}
+{}
 
 /// At most one answer to a text is right.
 pub fn one_answer()
     ensures { OneAnswer }
-{
-}
+{}

@@ -1,6 +1,6 @@
-// Decimals times powers of ten, rounded to whole numbers.
+//! Decimals times powers of ten, rounded to whole numbers.
 
-ghost use Rattle.std.specs.Prelude.{◌≡◌, ℕ, ℤ, pos, negsuc, ◌+ℤ◌, ◌≤ℤ◌, ◌≤◌, ◌^◌, unsigned_abs, SomeIff};
+ghost use Rattle.std.specs.Prelude.{pos, negsuc, ◌≤ℤ◌, ◌≤◌, ◌^◌, unsigned_abs, SomeIff};
 ghost use Rattle.decimal_e.specs.Scales.{decimal_word, HoldsValue};
 
 use crate::dec::Dec;
@@ -27,5 +27,4 @@ pub fn ceil_at(d: &Dec, k: i32) -> Option<i128>
 /// The word from floor to ceiling holds the exact value of `d * 10^k`.
 pub fn holds_value()
     ensures { HoldsValue }
-{
-}
+{}

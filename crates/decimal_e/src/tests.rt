@@ -1,6 +1,6 @@
-// Decimals of SINEX lines and their faults, and decimals rounded at a power of ten.
+//! Decimals of SINEX lines and their faults, and decimals rounded at a power of ten.
 
-ghost use Rattle.std.specs.Prelude.{◌≡◌, pos, negsuc, codes, []};
+ghost use Rattle.std.specs.Prelude.{◌≡◌, ◌↔◌, IsTrue, pos, negsuc, codes, []};
 ghost use Rattle.decimal_e.specs.Digits.{number};
 ghost use Rattle.decimal_e.specs.Grammar.{value_of};
 ghost use Rattle.decimal_e.specs.Scales.{decimal_word};
@@ -17,7 +17,11 @@ const READ: [(&[u8], i128, i32); 15] = [
     (b"0E5", 0, 0),
     (b"+0001200.500", 12005, -1),
     (b"100000000000000000000000000000e-10", 1, 19),
-    (b".000000000000000000000000000000123456789012345678", 123_456_789_012_345_678, -48),
+    (
+        b".000000000000000000000000000000123456789012345678",
+        123_456_789_012_345_678,
+        -48,
+    ),
     (b"5.", 5, 0),
     (b"7d3", 7, 3),
     (b"7+3", 7, 3),
@@ -50,22 +54,31 @@ const REFUSED: [(&[u8], DecFault); 23] = [
     (b"1E999", DecFault::Exponent),
     (b"1E1000", DecFault::Exponent),
     (b"0E1000", DecFault::Exponent),
-    (b"1E-99999999999999999999999999999999999", DecFault::Exponent),
+    (
+        b"1E-99999999999999999999999999999999999",
+        DecFault::Exponent,
+    ),
 ];
 
 // The definitions, at worked rows.
 fn evaluated()
     ensures point { value_of (record {
-        mantissa = record { sign = codes "-"; whole = []; point = codes "."; fraction = codes "407557863123456" };
-        power = record { letter = codes "E"; sign = codes "+"; digits = codes "07" };
+      mantissa = record { sign = codes "-"; whole = []; point = codes "."; fraction = codes "407557863123456" };
+      power = record { letter = codes "E"; sign = codes "+"; digits = codes "07" };
     }) ≡ record { mant = negsuc 407557863123455; exp = negsuc 7 } }
     ensures bare { value_of (record {
-        mantissa = record { sign = []; whole = []; point = codes "."; fraction = codes "5" };
-        power = record { letter = []; sign = codes "-"; digits = codes "10" };
+      mantissa = record { sign = []; whole = []; point = codes "."; fraction = codes "5" };
+      power = record { letter = []; sign = codes "-"; digits = codes "10" };
     }) ≡ record { mant = pos 5; exp = negsuc 10 } }
     ensures digits { number (codes "0012") ≡ 12 }
     ensures rounded { decimal_word (record { mant = negsuc 14; exp = negsuc 0 }) (pos 0) ≡ record { lo = negsuc 1; hi = negsuc 0 } }
+{}
+
+// Equality of decimals is equality of their values.
+fn same(a: &Dec, b: &Dec) -> bool
+    ensures { IsTrue result ↔ (a.now ≡ b.now) }
 {
+    a == b
 }
 
 fn crosses_threads<T: Send + Sync>(_value: &T) {}
@@ -89,6 +102,7 @@ fn decimals_are_rounded(rt: HostRuntime) -> Result<(), Fail> {
     let minus = Dec::new(-1500, -3);
     crosses_threads(&minus);
     assert_eq!(rt; minus, Dec::new(-15, -1));
+    assert_eq!(rt; minus.map(|d| same(&d, &d)), Some(true));
     assert_eq!(rt; minus.map(|d| (d.mant(), d.exp())), Some((-15, -1)));
     assert_eq!(rt; minus.and_then(|d| floor_at(&d, 0)), Some(-2));
     assert_eq!(rt; minus.and_then(|d| ceil_at(&d, 0)), Some(-1));
@@ -96,6 +110,9 @@ fn decimals_are_rounded(rt: HostRuntime) -> Result<(), Fail> {
     assert_eq!(rt; minus.and_then(|d| ceil_at(&d, 37)), None);
     assert_eq!(rt; Dec::new(i128::MAX, 0), None);
     assert_eq!(rt; Dec::new(1, 121), None);
-    assert_eq!(rt; Dec::new(0, 9999).map(|d| (d.mant(), d.exp())), Some((0, 0)));
+    assert_eq!(rt;
+        Dec::new(0, 9999).map(|d| (d.mant(), d.exp())),
+        Some((0, 0))
+    );
     Ok(())
 }

@@ -1,4 +1,4 @@
-use Rattle.std.proofs.Common.{◌≡◌, ◌<◌, ◌*◌, ◌^◌, ◌/◌, ◌+◌, arith}
+use Rattle.std.proofs.Common.{◌<◌, ◌/◌, ◌+◌, arith}
 use Rattle.decimal_e.proofs.Numbers.{few_zeros, strip_step}
 use Rattle.decimal_e.proofs.dec.stripped.Goals as goal
 

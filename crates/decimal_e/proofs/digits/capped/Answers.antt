@@ -1,4 +1,4 @@
-use Rattle.std.proofs.Common.{◌≡◌, ◌<◌, ◌≤◌, ◌*◌, ◌^◌, ◌-◌, ◌+◌, arith, take, get_or, ap, ◌∙◌, min}
+use Rattle.std.proofs.Common.{◌≡◌, ◌+◌, arith, take, get_or, ap, ◌∙◌, min}
 use Rattle.std.proofs.lemmas.List.{take_more}
 use Rattle.decimal_e.specs.Digits.{number}
 use Rattle.decimal_e.proofs.Numbers.{number_push}

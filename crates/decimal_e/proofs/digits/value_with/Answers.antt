@@ -1,4 +1,4 @@
-use Rattle.std.proofs.Common.{◌≡◌, ◌<◌, ◌≤◌, ◌*◌, ◌^◌, ◌-◌, ◌+◌, arith, ap}
+use Rattle.std.proofs.Common.{◌*◌, ◌-◌, ◌+◌, arith, ap}
 use Rattle.decimal_e.proofs.Numbers.{with_digit, eighteen}
 use Rattle.decimal_e.proofs.digits.value_with.Goals as goal
 

@@ -1,8 +1,8 @@
-use Rattle.std.proofs.Common.{◌≡◌, ◌≢◌, ℕ, ℤ, pos, negsuc, ◌*ℤ◌, ◌≤◌, ◌≤ℤ◌, ◌<ℤ◌, unsigned_abs, FitsSigned, w32, rules, arith, sym, ap, subst, refl, min, ◌∙◌}
+use Rattle.std.proofs.Common.{pos, ◌*ℤ◌, FitsSigned, w32, rules, arith, sym, ap, refl, ◌∙◌}
 use Rattle.std.specs.Int.{w128}
 use Rattle.std.proofs.lemmas.Int.{ints, to_z-of_z, fits_signed_from_abs}
 use Rattle.decimal_e.specs.Cuts.{numeral_of}
-use Rattle.decimal_e.specs.Decimals.{Decimal, IsCanonical, IsCanonicalOf}
+use Rattle.decimal_e.specs.Decimals.{Decimal, IsCanonicalOf}
 use Rattle.decimal_e.specs.Grammar.{sign_of, digits_of, value_of}
 use Rattle.decimal_e.proofs.Outcomes.{tally_form, tally_zero, value_read, zero_read, far_below, far_above, form_at}
 use Rattle.decimal_e.proofs.Tallied.{not_too_long}
@@ -22,12 +22,13 @@ pub returns-then-exp-lt-LEAST_EXPONENT : goal.returns-then-exp-lt-LEAST_EXPONENT
 returns-then-exp-lt-LEAST_EXPONENT c =
     let n = numeral_of c.args.numeral.now in
     let t = c.tally_of-tally.result in
-    let form = tally_form n t c.capped-written.result c.exponent_of-exp.result c.tally_of-tally.ensures c.if-tally-gt-MOST_DIGITS.false c.if-tally-eq0.false c.capped-written.ensures c.if-written-gt-GREATEST_WRITTEN.false c.exponent_of-exp.ensures in
-    (not_too_long t (digits_of n.mantissa) c.tally_of-tally.ensures c.if-tally-gt-MOST_DIGITS.false,
-    elim c.then-exp-lt-LEAST_EXPONENT.branch [
-      | then-exp-lt-LEAST_EXPONENT-via-then-exp-lt-LEAST_EXPONENT w ↦ far_below n t.value c.exponent_of-exp.result form c.if-tally-eq0.false (omega (arith, ints, w.if-exp-lt-LEAST_EXPONENT.true))
-      | then-exp-lt-LEAST_EXPONENT-via-else-exp-lt-LEAST_EXPONENT+then-exp-gt-GREATEST_EXPONENT w ↦ far_above n t.value c.exponent_of-exp.result form c.if-tally-eq0.false (omega (arith, ints, w.if-exp-gt-GREATEST_EXPONENT.true))
-    ])
+    let form = tally_form n t c.capped-written.result c.exponent_of-exp.result c.tally_of-tally.ensures c.if-tally-gt-MOST_DIGITS.false c.if-tally-eq0.false c.capped-written.ensures c.if-written-gt-GREATEST_WRITTEN.false c.exponent_of-exp.ensures in (
+      not_too_long t (digits_of n.mantissa) c.tally_of-tally.ensures c.if-tally-gt-MOST_DIGITS.false,
+      elim c.then-exp-lt-LEAST_EXPONENT.branch [
+        | then-exp-lt-LEAST_EXPONENT-via-then-exp-lt-LEAST_EXPONENT w ↦ far_below n t.value c.exponent_of-exp.result form c.if-tally-eq0.false (omega (arith, ints, w.if-exp-lt-LEAST_EXPONENT.true))
+        | then-exp-lt-LEAST_EXPONENT-via-else-exp-lt-LEAST_EXPONENT+then-exp-gt-GREATEST_EXPONENT w ↦ far_above n t.value c.exponent_of-exp.result form c.if-tally-eq0.false (omega (arith, ints, w.if-exp-gt-GREATEST_EXPONENT.true))
+      ],
+    )
 
 -- the canonical form, as it is made
 formed : (c : goal.After-signed) → IsCanonicalOf (record { mant = c.signed.result; exp = c.exponent_of-exp.result }) (value_of (numeral_of c.args.numeral.now))

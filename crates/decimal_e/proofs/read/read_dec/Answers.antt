@@ -1,4 +1,4 @@
-use Rattle.std.proofs.Common.{sym, Err}
+use Rattle.std.proofs.Common.{Err}
 use Rattle.decimal_e.specs.Cuts.{numeral_of}
 use Rattle.decimal_e.proofs.Outcomes.{one_answer_of, answered}
 use Rattle.decimal_e.proofs.read.read_dec.Goals as goal
