@@ -1,0 +1,2 @@
+pub mod YearDays
+pub mod Times

@@ -1,0 +1,11 @@
+use Rattle.snx_epoch.proofs.Times.{time_digits}
+use Rattle.snx_epoch.proofs.place_of.Goals as goal
+
+pub digit_at-requires-clause-digit : goal.digit_at-requires-clause-digit
+digit_at-requires-clause-digit c = (time_digits c.args.text.now c.requires).d3
+
+pub digit_at-requires-2-clause-digit : goal.digit_at-requires-2-clause-digit
+digit_at-requires-2-clause-digit c = (time_digits c.args.text.now c.requires).d4
+
+pub digit_at-requires-3-clause-digit : goal.digit_at-requires-3-clause-digit
+digit_at-requires-3-clause-digit c = (time_digits c.args.text.now c.requires).d5

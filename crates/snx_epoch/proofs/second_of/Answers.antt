@@ -1,0 +1,17 @@
+use Rattle.snx_epoch.proofs.Times.{time_digits}
+use Rattle.snx_epoch.proofs.second_of.Goals as goal
+
+pub digit_at-requires-clause-digit : goal.digit_at-requires-clause-digit
+digit_at-requires-clause-digit c = (time_digits c.args.text.now c.requires).d7
+
+pub digit_at-requires-2-clause-digit : goal.digit_at-requires-2-clause-digit
+digit_at-requires-2-clause-digit c = (time_digits c.args.text.now c.requires).d8
+
+pub digit_at-requires-3-clause-digit : goal.digit_at-requires-3-clause-digit
+digit_at-requires-3-clause-digit c = (time_digits c.args.text.now c.requires).d9
+
+pub digit_at-requires-4-clause-digit : goal.digit_at-requires-4-clause-digit
+digit_at-requires-4-clause-digit c = (time_digits c.args.text.now c.requires).d10
+
+pub digit_at-requires-5-clause-digit : goal.digit_at-requires-5-clause-digit
+digit_at-requires-5-clause-digit c = (time_digits c.args.text.now c.requires).d11

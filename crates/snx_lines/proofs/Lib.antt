@@ -1,0 +1,4 @@
+pub mod Judged
+pub mod Passed
+pub mod Advance
+pub mod Ends

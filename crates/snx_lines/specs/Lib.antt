@@ -1,0 +1,4 @@
+pub mod Lines
+pub mod Framing
+pub mod Views
+pub mod Passing

@@ -1,0 +1,134 @@
+//! Lines and their columns.
+
+ghost use Rattle.std.specs.Prelude.{◌≡◌, ◌+◌, ◌-◌, ◌≤◌, ◌<◌, ℕ, length, take, drop};
+ghost use Rattle.std.specs.List.{before_first, position_or_len};
+ghost use Rattle.snx_lines.specs.Lines.{is_blank, is_blank_line, kind_by, kind_of, front_trimmed, end_trimmed, trimmed, columns, name_on, cut};
+
+/// What the first column of a line says.
+#[derive(Clone, Copy, Debug, PartialEq, Eq)]
+pub enum Kind {
+    /// `%`: the header or the footer.
+    Header,
+    /// `*`: a comment.
+    Comment,
+    /// `+`: the title of a block.
+    Start,
+    /// `-`: the end of a block.
+    End,
+    /// A blank, or no column at all.
+    Data,
+}
+
+/// A line of a text, cut at column 80.
+#[derive(Clone, Copy, Debug)]
+pub struct Line<'a> {
+    /// Its number in the text, from 1.
+    pub number: u32,
+    /// What its first column says.
+    pub kind: Kind,
+    /// Its bytes without the line's end.
+    pub text: &'a [u8],
+}
+
+/// A space or a tab.
+pub(crate) fn is_blank_byte(b: u8) -> bool
+    ensures { result ≡ is_blank b }
+{
+    b == b' ' || b == b'\t'
+}
+
+/// Whether each byte is a blank.
+pub(crate) fn is_all_blank(text: &[u8]) -> bool
+    ensures { result ≡ is_blank_line text.now }
+{
+    text.iter().all(|b| is_blank_byte(*b))
+}
+
+/// What a line's first column says; nothing where its byte is none of the format's.
+pub(crate) fn kind_from(text: &[u8]) -> Option<Kind>
+    ensures { result ≡ kind_of text.now }
+{
+    match text {
+        [] => Some(Kind::Data),
+        [b'%', ..] => Some(Kind::Header),
+        [b'*', ..] => Some(Kind::Comment),
+        [b'+', ..] => Some(Kind::Start),
+        [b'-', ..] => Some(Kind::End),
+        [b' ' | b'\t', ..] => Some(Kind::Data),
+        _ => None,
+    }
+}
+
+/// The first 80 columns.
+#[tactic(auto, using(std::proofs::lemmas::List::take_min))]
+pub(crate) fn cut_at_80<'a>(text: &'a [u8]) -> &'a [u8]
+    ensures { result.now ≡ cut text.now }
+{
+    let end = 80usize.min(text.len());
+    &text[..end]
+}
+
+/// How many bytes stand before the first blank.
+fn first_blank(text: &[u8]) -> usize
+    ensures place { result ≡ position_or_len is_blank text.now }
+    ensures within { result ≤ length text.now }
+{
+    for (i, b) in text.iter().enumerate() {
+        if is_blank_byte(*b) {
+            return i;
+        }
+    }
+    text.len()
+}
+
+/// The name on a title or an end line.
+pub(crate) fn name_from<'a>(text: &'a [u8]) -> &'a [u8]
+    ensures { result.now ≡ name_on text.now }
+{
+    match text {
+        [] => text,
+        [_, rest @ ..] => {
+            let end = first_blank(rest);
+            &rest[..end]
+        }
+    }
+}
+
+fn without_front<'a>(text: &'a [u8]) -> &'a [u8]
+    ensures { result.now ≡ front_trimmed text.now }
+{
+    let mut rest = text;
+    while let [b' ' | b'\t', tail @ ..] = rest {
+        rest = tail;
+    }
+    rest
+}
+
+fn without_end<'a>(text: &'a [u8]) -> &'a [u8]
+    ensures { result.now ≡ end_trimmed text.now }
+{
+    let mut rest = text;
+    while let [head @ .., b' ' | b'\t'] = rest {
+        rest = head;
+    }
+    rest
+}
+
+/// A text without the blanks at both ends: spaces and tabs.
+pub fn trim_blanks<'a>(text: &'a [u8]) -> &'a [u8]
+    ensures { result.now ≡ trimmed text.now }
+{
+    without_end(without_front(text))
+}
+
+/// Columns `from` to `to` of a line, counted from 1, without the blanks at both ends. Columns that the line lacks are blank.
+pub fn field<'a>(line: &Line<'a>, from: usize, to: usize) -> &'a [u8]
+    requires first { 1 ≤ from }
+    requires order { from ≤ to }
+    ensures { result.now ≡ columns line.now.text.now from to }
+{
+    let text = line.text;
+    let end = to.min(text.len());
+    let start = (from - 1).min(end);
+    trim_blanks(&text[start..end])
+}
