@@ -48,6 +48,7 @@ impl From<AllocError> for ReadError {
     }
 }
 
+// A buffer of that many zeros. It stands alone, so that no proof counts out a literal size.
 fn buffer(alloc: Global, size: usize) -> Result<Vec<u8>, AllocError>
     ensures { IfOk result (λ piece. length piece.items ≡ size) }
 {
