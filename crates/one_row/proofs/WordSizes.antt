@@ -1,0 +1,48 @@
+-- How large differences and multiples of words are.
+use Rattle.std.proofs.Common.{◌≡◌, ℕ, ℤ, pos, negsuc, suc, ◌+ℤ◌, ◌*ℤ◌, ◌*◌, ◌+◌, ◌^◌, ◌≤◌, ◌<◌, unsigned_abs, FitsSigned, arith}
+use Rattle.std.proofs.Math.IntN.{◌-ℤ◌}
+use Rattle.std.specs.Int.{w128}
+use Rattle.std.proofs.Math.Nat.{mul-le-mul, mul-le-mul_left}
+use Rattle.std.proofs.lemmas.Int.{ints, to_z-of_z, unsigned_abs-mul, fits_signed_from_abs}
+use Rattle.whole_numbers.specs.Words.{Word, Within, IsProductRange, size, word_sub, word_scale}
+
+pub low_fits : (w v : Word) → size w + size v < 2 ^ 127 → FitsSigned w128 (w.lo -ℤ v.hi)
+low_fits w v h = omega (arith, ints)
+
+pub high_fits : (w v : Word) → size w + size v < 2 ^ 127 → FitsSigned w128 (w.hi -ℤ v.lo)
+high_fits w v h = omega (arith, ints)
+
+pub difference_size : (w v : Word) → size (word_sub w v) ≤ size w + size v
+difference_size w v = omega (arith, ints)
+
+pub multiple_size : (k : ℤ) (w : Word) → size (word_scale k w) ≤ unsigned_abs k * size w
+multiple_size (pos k) w =
+    let l : unsigned_abs w.lo ≤ size w = omega arith in
+    let r : unsigned_abs w.hi ≤ size w = omega arith in
+    let lk = mul-le-mul_left k l in
+    let rk = mul-le-mul_left k r in
+    omega (arith, unsigned_abs-mul (pos k) w.lo, unsigned_abs-mul (pos k) w.hi, lk, rk)
+multiple_size (negsuc k) w =
+    let l : unsigned_abs w.lo ≤ size w = omega arith in
+    let r : unsigned_abs w.hi ≤ size w = omega arith in
+    let lk = mul-le-mul_left (suc k) l in
+    let rk = mul-le-mul_left (suc k) r in
+    omega (arith, unsigned_abs-mul (negsuc k) w.lo, unsigned_abs-mul (negsuc k) w.hi, lk, rk)
+
+pub ruleset difference_rules = (to_z-of_z, low_fits, high_fits, difference_size)
+
+pub ruleset multiple_rules = (to_z-of_z, multiple_size)
+
+within_size : (w : Word) (x : ℤ) → Within w x → unsigned_abs x ≤ size w
+within_size w x h = let l = h.above in let r = h.below in omega (arith, ints, l, r)
+
+end_size : (w v : Word) (e : ℤ) → (x : ℤ) × (y : ℤ) × (Within w x × Within v y × (e ≡ x *ℤ y)) → unsigned_abs e ≤ size w * size v
+end_size w v e h =
+    let p = mul-le-mul (within_size w h.0 h.2.0) (within_size v h.1 h.2.1) in
+    rw h.2.2 (omega (arith, p, unsigned_abs-mul h.0 h.1))
+
+pub product_size : (w v p : Word) → IsProductRange w v p → size p ≤ size w * size v
+product_size w v p h =
+    let l = end_size w v p.lo h.least in
+    let r = end_size w v p.hi h.greatest in
+    omega (arith, l, r)

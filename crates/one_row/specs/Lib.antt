@@ -1,0 +1,5 @@
+pub mod Certificates
+pub mod Ends
+pub mod Rules
+pub mod Sizes
+pub mod Bounds
