@@ -130,9 +130,9 @@ same_block front back text p q v w x y h k =
     record { parameter = s.parameter; value = s.value; rest = append_cancel_left back x y s.rest }
 
 -- the first block that a reader finds is the one that the text has
-pub first_found : (text lines : List ℕ) (p : Parameter) (a v x : List ℕ) → IsHeader text lines → (h : IsRows text p a v x) → IsBlock apriori_front apriori_back lines p a h.second
+pub first_found : (text lines : List ℕ) (p : Parameter) (a v x : List ℕ) → IsHeader text lines → (h : IsRows text p a v x) → IsBlock apriori_front apriori_back lines p a h.from_second
 first_found text lines p a v x f h =
-    subst (λ (t : List ℕ). IsBlock apriori_front apriori_back t p a h.second) (same_header text h.blocks lines h.header f) h.first_block
+    subst (λ (t : List ℕ). IsBlock apriori_front apriori_back t p a h.from_second) (same_header text h.from_blocks lines h.header f) h.first_block
 
 pub record IsSameParts (p q : Parameter) (v w : List ℕ) : Type 0 where
   pub parameter : p ≡ q
@@ -141,7 +141,7 @@ pub record IsSameParts (p q : Parameter) (v w : List ℕ) : Type 0 where
 -- and so is the second
 pub second_found : (text lines second : List ℕ) (p q : Parameter) (a b v x : List ℕ) → IsHeader text lines → IsBlock apriori_front apriori_back lines q b second → IsRows text p a v x → IsSameParts p q a b × IsBlock vector_front vector_back second p v x
 second_found text lines second p q a b v x f k h =
-    let s = same_block apriori_front apriori_back lines p q a b h.second second (first_found text lines p a v x f h) k in
+    let s = same_block apriori_front apriori_back lines p q a b h.from_second second (first_found text lines p a v x f h) k in
     (record { parameter = s.parameter; value = s.value }, subst (λ (t : List ℕ). IsBlock vector_front vector_back t p v x) s.rest h.second_block)
 
 pub record IsSameRows (p q : Parameter) (a b v w x y : List ℕ) : Type 0 where
@@ -152,8 +152,8 @@ pub record IsSameRows (p q : Parameter) (a b v w x y : List ℕ) : Type 0 where
 
 pub same_rows : (text : List ℕ) (p q : Parameter) (a b v w x y : List ℕ) → IsRows text p a v x → IsRows text q b w y → IsSameRows p q a b v w x y
 same_rows text p q a b v w x y h k =
-    let s = second_found text k.blocks k.second p q a b v x k.header k.first_block h in
-    let r = same_block vector_front vector_back k.second p q v w x y s.1 k.second_block in
+    let s = second_found text k.from_blocks k.from_second p q a b v x k.header k.first_block h in
+    let r = same_block vector_front vector_back k.from_second p q v w x y s.1 k.second_block in
     record { parameter = s.0.parameter; apriori = s.0.value; vector = r.value; rest = r.rest }
 
 -- ---- equal parameters

@@ -18,8 +18,8 @@ rows_from_form text p h =
     let second : List ℕ = vector_front ++ second_row in
     let first_row : List ℕ = row_text p.parameter h.fields.apriori ++ (apriori_back ++ second) in
     record {
-      blocks = apriori_front ++ first_row;
-      second = second;
+      from_blocks = apriori_front ++ first_row;
+      from_second = second;
       header = record { more = h.fields.header; line = h.lines; one_line = h.one_line };
       first_block = record { from_row = first_row; begins = refl; row = record { row = refl; axis = h.axis; code = h.code; code_columns = h.code_columns; columns = h.apriori.columns } };
       second_block = record { from_row = second_row; begins = refl; row = record { row = refl; axis = h.axis; code = h.code; code_columns = h.code_columns; columns = h.vector.columns } };

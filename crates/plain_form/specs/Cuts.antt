@@ -39,11 +39,11 @@ vector_back = codes "\n-SOLUTION/NORMAL_EQUATION_VECTOR\n"
 
 -- the text is the first line, the block of the a priori value and that of the vector element, of one parameter, and then the rest
 pub record IsRows (text : List ℕ) (p : Parameter) (apriori vector rest : List ℕ) : Type 0 where
-  pub blocks : List ℕ
-  pub second : List ℕ
-  pub header : IsHeader text blocks
-  pub first_block : IsBlock apriori_front apriori_back blocks p apriori second
-  pub second_block : IsBlock vector_front vector_back second p vector rest
+  pub from_blocks : List ℕ
+  pub from_second : List ℕ
+  pub header : IsHeader text from_blocks
+  pub first_block : IsBlock apriori_front apriori_back from_blocks p apriori from_second
+  pub second_block : IsBlock vector_front vector_back from_second p vector rest
 
 -- the text is a matrix line with its element, the end of its block, and the last line
 pub record IsGivenElement (text : List ℕ) (d : Decimal) : Type 0 where

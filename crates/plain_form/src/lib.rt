@@ -26,6 +26,8 @@ ghost use Rattle.plain_form.specs.Plain.{IsPlainForm};
 ghost use Rattle.plain_form.specs.Cuts.{IsTheOne};
 
 mod cut;
+#[cfg(test)]
+mod tests;
 mod value;
 
 use crate::cut::rows_of;
@@ -71,8 +73,10 @@ fn reading_of(text: &[u8]) -> Option<Plain>
 
 /// The parameter and the numbers of a text in the plain form, or none where it isn't in it.
 ///
-/// The a priori value and the vector element are in metres and in the normal equation's own scale, as they are written.
-/// None comes for any other text, also for one that SINEX allows: with other blocks, comments, CR LF or two parameters.
+/// The numbers are exact, as they are written: the a priori value in metres, the elements of the normal equation in its own
+/// scale. A file without a matrix line has the matrix element zero. None comes exactly where the text is in another form,
+/// also in one that SINEX allows: with other blocks, comments, lines that end by CR LF, or more parameters than one; where a
+/// value's field isn't a number that [`decimal_e::read_dec`] reads; and where the a priori value passes 10^12 metres in size.
 pub fn read_plain(text: &[u8]) -> Option<Plain>
     // What is read is in the text, and where nothing is read the text isn't in the form.
     ensures reads { MatchOption result ((p : Plain) → IsPlainForm text.now p → ⊥) (λ p. IsPlainForm text.now p) }

@@ -5,11 +5,11 @@ use Rattle.plain_form.proofs.Cutting.{first_found, second_found, same_block, tes
 use Rattle.plain_form.proofs.cut.rows_of.Goals as goal
 
 pub returns-in_err-lines : goal.returns-in_err-lines
-returns-in_err-lines c = rw c.from_residual.ensures (λ p apriori vector rest h. c.in_err-lines.ensures h.blocks h.header)
+returns-in_err-lines c = rw c.from_residual.ensures (λ p apriori vector rest h. c.in_err-lines.ensures h.from_blocks h.header)
 
 pub returns-in_err-parameter : goal.returns-in_err-parameter
 returns-in_err-parameter c = rw c.from_residual-in_err-parameter.ensures (λ p apriori vector rest h.
-    c.in_err-parameter.ensures p apriori h.second (first_found c.args.text.now _ p apriori vector rest c.in_ok-lines.ensures h))
+    c.in_err-parameter.ensures p apriori h.from_second (first_found c.args.text.now _ p apriori vector rest c.in_ok-lines.ensures h))
 
 pub returns-in_err-other : goal.returns-in_err-other
 returns-in_err-other c = rw c.from_residual-in_err-other.ensures (λ p apriori vector rest h.
@@ -20,8 +20,8 @@ pub returns-then-eq : goal.returns-then-eq
 returns-then-eq c =
     let same = tested_same _ _ c.if-eq.ensures in
     record {
-      blocks = c.in_ok-lines.lines.now;
-      second = c.in_ok-parameter.lines.now;
+      from_blocks = c.in_ok-lines.lines.now;
+      from_second = c.in_ok-parameter.lines.now;
       header = c.in_ok-lines.ensures;
       first_block = c.in_ok-parameter.ensures;
       second_block = subst (λ (p : Parameter). IsBlock vector_front vector_back c.in_ok-parameter.lines.now p c.in_ok-other.vector.now c.in_ok-other.rest.now) same c.in_ok-other.ensures;
