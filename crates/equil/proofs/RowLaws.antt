@@ -1,13 +1,13 @@
 -- What one more word, row or exponent keeps.
-use Rattle.std.proofs.Common.{◌≡◌, ◌≤◌, ◌<◌, ◌+◌, ◌∙◌, ◌++◌, ◌∷◌, [], ◌⊎◌, inl, inr, ℕ, ℤ, pos, List, Option, SomeIff, length, get_or, refl, sym, ap, subst, arith, FitsSigned, neg_ℤ, to_z, of_z}
+use Rattle.std.proofs.Common.{◌≡◌, ◌≤◌, ◌<◌, ◌+◌, ◌∙◌, ◌++◌, ◌∷◌, [], ◌⊎◌, inl, inr, ℕ, ℤ, pos, List, Option, SomeIff, length, get_or, refl, sym, ap, subst, arith}
 use Rattle.std.proofs.Math.Decide.{dec_lt}
 use Rattle.std.proofs.lemmas.List.{get_or_push, get_or_append_left, length_push}
 use Rattle.whole_numbers.specs.Words.{Word, size}
 use Rattle.whole_numbers.specs.Scaling.{word_scale10}
 use Rattle.sym_blocks.specs.Tables.{SymTable, word, IsPair}
-use Rattle.equil.specs.Exponents.{IsExponent, IsInRange}
+use Rattle.equil.specs.Exponents.{IsInRange}
 use Rattle.equil.specs.Rows.{AllInRange, AreScaled, IsRowScaled, KeepsRows}
-use Rattle.equil.specs.Tables.{exponent_of, working_entry, EntryFits, AreExponents}
+use Rattle.equil.specs.Tables.{working_entry, EntryFits}
 
 -- b is a with the word w at the pair (i, j)
 pub record IsSet (i j : ℕ) (w : Word) (a b : SymTable) : Type 0 where

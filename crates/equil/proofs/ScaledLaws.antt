@@ -5,7 +5,6 @@ use Rattle.std.proofs.lemmas.Int.{ints, unsigned_abs-mul}
 use Rattle.std.proofs.lemmas.Nat.{pow-add}
 use Rattle.std.proofs.Math.Nat.{mul-le-mul_right}
 use Rattle.whole_numbers.specs.Scaling.{word_scale10}
-use Rattle.whole_numbers.specs.Sum.{sum_to}
 use Rattle.whole_numbers.specs.Words.{Word, Holds}
 use Rattle.whole_numbers.proofs.Powers.{ten_above}
 use Rattle.whole_numbers.proofs.Ring.{ring, mul_mono_pos}

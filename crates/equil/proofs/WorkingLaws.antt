@@ -1,5 +1,5 @@
 -- What the parts of a working table say together.
-use Rattle.std.proofs.Common.{◌≡◌, ◌≤◌, ◌<◌, ◌^◌, ◌⊎◌, ◌∙◌, inl, inr, ℕ, ℤ, pos, ◌-ℤ◌, neg_ℤ, List, length, slice_index_or, refl, sym, ap, subst, arith}
+use Rattle.std.proofs.Common.{◌≡◌, ◌≤◌, ◌<◌, ◌^◌, ◌∙◌, inl, inr, ℕ, ℤ, ◌-ℤ◌, neg_ℤ, List, length, slice_index_or, sym, ap, subst, arith}
 use Rattle.std.proofs.Math.Decide.{dec_le}
 use Rattle.std.proofs.lemmas.Int.{ints}
 use Rattle.whole_numbers.specs.Words.{Word, size}
@@ -10,7 +10,7 @@ use Rattle.equil.specs.declared.EquilError.{EquilError}
 use Rattle.equil.specs.declared.EquilError.TheVariants.{Range, Memory}
 use Rattle.equil.specs.Refusals.{IfRange}
 use Rattle.equil.specs.Rows.{AreScaled, IsRightScaled}
-use Rattle.equil.specs.Tables.{table_of, exponent_of, working_entry, working_right, EntryFits, AreExponents, IsFirstEntry, IsFirstRight, IsFirstPast, IsWorking}
+use Rattle.equil.specs.Tables.{table_of, exponent_of, working_entry, working_right, AreExponents, IsFirstEntry, IsFirstRight, IsFirstPast, IsWorking}
 
 range_weaker : (P Q : ℕ → ℕ → Type 0) → ((r c : ℕ) → P r c → Q r c) → (x : EquilError) → IfRange P x → IfRange Q x
 range_weaker P Q f (Range row col) h = f row col h

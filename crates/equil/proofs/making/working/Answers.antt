@@ -1,5 +1,4 @@
-use Rattle.std.proofs.Common.{arith, ◌≡◌, ◌∙◌, sym, length}
-use Rattle.equil.specs.Tables.{exponent_of}
+use Rattle.std.proofs.Common.{arith, ◌∙◌, sym, length}
 use Rattle.equil.proofs.ScaledLaws.{carries}
 use Rattle.equil.proofs.WorkingLaws.{past_table, past_right, scaled_small, right_small, all_working}
 use Rattle.equil.proofs.making.working.Goals as goal

@@ -1,4 +1,4 @@
-use Rattle.std.proofs.Common.{◌≡◌, ◌∙◌, ◌^◌, rules, FitsSigned, w32, to_z, of_z}
+use Rattle.std.proofs.Common.{◌∙◌, ◌^◌, rules, FitsSigned, w32}
 use Rattle.std.proofs.lemmas.Int.{to_z-of_z}
 use Rattle.equil.proofs.RowLaws.{scaled_same}
 use Rattle.equil.proofs.scaling.entry_scaled.Goals as goal

@@ -1,9 +1,8 @@
-use Rattle.std.proofs.Common.{◌≡◌, ◌++◌, ◌∷◌, ◌+◌, [], List, ℤ, ◌∙◌, ap, length, pos, arith, rules, subst, sym, FitsSigned, w32}
+use Rattle.std.proofs.Common.{◌≡◌, ◌+◌, List, ℤ, ◌∙◌, ap, length, pos, arith, rules, subst, sym, FitsSigned, w32}
 use Rattle.std.specs.Int.{w128}
-use Rattle.std.specs.Vec.{vec_len}
-use Rattle.std.proofs.lemmas.Int.{ints, to_z-of_z}
+use Rattle.std.proofs.lemmas.Int.{to_z-of_z}
 use Rattle.sym_blocks.specs.Tables.{word}
-use Rattle.equil.specs.Exponents.{IsExponent, IsInRange}
+use Rattle.equil.specs.Exponents.{IsExponent}
 use Rattle.equil.specs.Rows.{AllInRange}
 use Rattle.equil.specs.Tables.{exponent_of, AreExponents}
 use Rattle.equil.proofs.RowLaws.{each_push, range_push}
