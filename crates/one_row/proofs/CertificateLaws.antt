@@ -1,22 +1,19 @@
 -- The certificate's numbers at one row.
-use Rattle.std.proofs.Common.{◌≡◌, ℕ, ℤ, pos, negsuc, suc, ◌+ℤ◌, ◌*ℤ◌, neg_ℤ, ◌*◌, ◌+◌, ◌-◌, ◌/◌, ◌%◌, ◌^◌, ◌≤◌, ◌<◌, unsigned_abs, Bool, true, false, nat_le, min, arith, refl, sym, ap, ◌∙◌}
-use Rattle.std.proofs.Math.IntN.{◌-ℤ◌}
+use Rattle.std.proofs.Common.{◌≡◌, ℕ, ℤ, pos, negsuc, ◌+ℤ◌, neg_ℤ, ◌*◌, ◌+◌, ◌-◌, ◌^◌, ◌≤◌, ◌<◌, unsigned_abs, true, nat_le, min, arith, refl, sym, ap, ◌∙◌}
 use Rattle.std.proofs.Math.Nat.{mul-le-mul, mul-le-mul_right}
 use Rattle.std.proofs.Math.Decide.{dec_lt}
 use Rattle.std.proofs.lemmas.Nat.{pow-add}
 use Rattle.std.proofs.lemmas.Int.{ints, to_z-of_z}
 use Rattle.std.proofs.lemmas.Bool.Decides.{nat_tests}
 use Rattle.std.proofs.lemmas.Grind.{div_ceil_times}
-use Rattle.whole_numbers.specs.Sum.{sum_to, total_to, unit}
 use Rattle.whole_numbers.specs.Words.{Word, size, word_sub, word_scale, word_shift, point_word, sum_words}
 use Rattle.whole_numbers.specs.Least.{least_below}
 use Rattle.whole_numbers.proofs.WordLaws.{two_pow_above}
 use Rattle.whole_numbers.specs.Quotients.{floor_over, ceil_over, up_over}
-use Rattle.sys_model.specs.Systems.{left_word, defect_size, row_parts, row_error, radius, rho}
+use Rattle.sys_model.specs.Systems.{left_word, defect_size}
 use Rattle.one_row.specs.declared.Working.{Working}
 use Rattle.one_row.specs.declared.Pilot.{Pilot}
-use Rattle.one_row.specs.Rules.{row_table, pilot_table, shift_of_left, parts_of, error_of, radius_of}
-use Rattle.one_row.specs.Sizes.{IsWorking, IsPilot}
+use Rattle.one_row.specs.Rules.{row_table, pilot_table, shift_of_left, error_of}
 
 product_le : (x a y b : ℕ) → x ≤ a → y ≤ b → x * y ≤ a * b
 product_le x a y b h l = mul-le-mul h l
@@ -84,7 +81,7 @@ error_from w p y v s b h m t ev eh es eb em et =
     let k : ℕ = shift_of_left w y in
     let dh : h ≡ k = eh ∙ ap (λ x. least_below 128 (λ j. nat_le (size (word_shift j x)) (2 ^ 66))) ev in
     let db : b ≡ word_scale (pos p.word) (word_shift k l) =
-        eb ∙ ap (λ x. word_scale (pos p.word) x) es ∙ ap (λ x. word_scale (pos p.word) (word_shift h x)) ev ∙ ap (λ j. word_scale (pos p.word) (word_shift j l)) dh in
+    eb ∙ ap (λ x. word_scale (pos p.word) x) es ∙ ap (λ x. word_scale (pos p.word) (word_shift h x)) ev ∙ ap (λ j. word_scale (pos p.word) (word_shift j l)) dh in
     let dt : t ≡ 2 ^ (p.g + 60 - k) = et ∙ ap (λ j. 2 ^ (p.g + 60 - j)) dh in
     let ds : b ≡ sum_words 1 (λ i. word_scale (pos p.word) (word_shift k l)) = db ∙ sym (one_word (λ i. word_scale (pos p.word) (word_shift k l))) in
     ap (λ x. up_over x t) em ∙ ap (λ x. up_over (size x) t) ds ∙ ap (λ x. up_over (size (sum_words 1 (λ i. word_scale (pos p.word) (word_shift k l)))) x) dt

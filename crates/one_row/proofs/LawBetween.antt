@@ -8,7 +8,7 @@ use Rattle.whole_numbers.specs.Scaling.{word_scale10}
 use Rattle.whole_numbers.proofs.Ring.{ring}
 use Rattle.whole_numbers.proofs.EqualFractions.{holds_sum_of, equal_thrice}
 use Rattle.whole_numbers.proofs.Powers as Powers
-use Rattle.decimal_e.specs.Decimals.{Decimal, ten_above}
+use Rattle.decimal_e.specs.Decimals.{Decimal}
 use Rattle.decimal_e.specs.Fractions.{numerator, denominator}
 use Rattle.decimal_e.specs.Scales.{decimal_word}
 use Rattle.sys_model.specs.Systems.{around}

@@ -1,5 +1,5 @@
 -- The printed numbers, from the ends and the residual.
-use Rattle.std.proofs.Common.{◌≡◌, ℕ, ℤ, pos, ◌+ℤ◌, ◌^◌, ◌≤◌, unsigned_abs, Bool, true, false, nat_le, ◌&&◌, if◌then◌else◌, Option, Some, None, arith, refl, sym, ap, ◌∙◌}
+use Rattle.std.proofs.Common.{◌≡◌, ℕ, ℤ, pos, ◌+ℤ◌, ◌^◌, ◌≤◌, unsigned_abs, Bool, true, false, nat_le, ◌&&◌, if◌then◌else◌, Option, Some, None, refl, ap, ◌∙◌}
 use Rattle.std.proofs.Math.IntN.{◌-ℤ◌}
 use Rattle.std.specs.Option.{option_map}
 use Rattle.std.proofs.lemmas.Bool.{le-leb}
@@ -31,7 +31,7 @@ ends_from x0 w y r l u m a b el eu em =
     let mid : ℤ = estimate_of x0 w y in
     ap (λ x. limited_ends x u m) el ∙ ap (λ x. limited_ends lo x m) eu ∙ ap (λ x. limited_ends lo up x) em
     ∙ terms_small (unsigned_abs (floor_scaled (y -ℤ pos r) (pos 4 -ℤ w.exponent))) (unsigned_abs (ceil_scaled (y +ℤ pos r) (pos 4 -ℤ w.exponent))) (unsigned_abs lo) (unsigned_abs up) (unsigned_abs mid)
-      (Some (record { lower = lo; upper = up; estimate = mid })) a b
+    (Some (record { lower = lo; upper = up; estimate = mid })) a b
 
 -- ---- what follows a choice
 not_chosen : (b : Bool) (s : Shown) (p : Option Printed) → None ≡ (if b then Some s else None) → None ≡ (if b then p else None)

@@ -1,6 +1,5 @@
 -- How large the words of the a priori value and the terms of the estimate are.
-use Rattle.std.proofs.Common.{◌≡◌, ℕ, zero, suc, ℤ, pos, negsuc, neg_ℤ, ◌+ℤ◌, ◌*ℤ◌, ◌≤ℤ◌, ◌<ℤ◌, ◌+◌, ◌-◌, ◌*◌, ◌/◌, ◌^◌, ◌≤◌, ◌<◌, unsigned_abs, Option, Some, None, arith, refl, sym, ap, ◌∙◌}
-use Rattle.std.proofs.Math.IntN.{◌-ℤ◌}
+use Rattle.std.proofs.Common.{◌≡◌, ℕ, suc, ℤ, pos, negsuc, neg_ℤ, ◌+ℤ◌, ◌*ℤ◌, ◌≤ℤ◌, ◌+◌, ◌-◌, ◌*◌, ◌/◌, ◌^◌, ◌≤◌, ◌<◌, unsigned_abs, None, arith, sym, ap, ◌∙◌}
 use Rattle.std.proofs.Math.Nat.{mul-le-mul, mul-le-mul_right, div-le_of_le-mul, div-mul-le_self}
 use Rattle.std.proofs.Math.Decide.{dec_le}
 use Rattle.std.proofs.lemmas.Nat.{pow-add}
@@ -11,7 +10,7 @@ use Rattle.whole_numbers.specs.Quotients.{floor_over, ceil_over}
 use Rattle.whole_numbers.specs.Scaling.{floor_scaled, ceil_scaled}
 use Rattle.whole_numbers.proofs.Powers.{ten_le, ten_above}
 use Rattle.decimal_e.specs.Decimals.{Decimal, ten_above as ten_over, ten_below}
-use Rattle.decimal_e.specs.Fractions.{numerator, denominator, IsAtMost}
+use Rattle.decimal_e.specs.Fractions.{IsAtMost}
 use Rattle.decimal_e.specs.Scales.{decimal_word}
 use Rattle.one_row.specs.Rules.{within}
 use Rattle.one_row.proofs.VectorLaws.{floor_small}

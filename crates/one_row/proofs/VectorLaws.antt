@@ -1,17 +1,12 @@
 -- How large the numbers of the start vector are.
-use Rattle.std.proofs.Common.{◌≡◌, ℕ, ℤ, pos, negsuc, ◌+ℤ◌, ◌*ℤ◌, neg_ℤ, ◌*◌, ◌+◌, ◌-◌, ◌/◌, ◌^◌, ◌≤◌, ◌<◌, unsigned_abs, Bool, true, false, nat_le, FitsSigned, arith, sym}
-use Rattle.std.proofs.Math.IntN.{◌-ℤ◌}
-use Rattle.std.specs.Int.{w128}
+use Rattle.std.proofs.Common.{◌≡◌, ℕ, ℤ, pos, negsuc, ◌+ℤ◌, ◌*ℤ◌, ◌*◌, ◌^◌, ◌≤◌, ◌<◌, unsigned_abs, true, nat_le, arith}
 use Rattle.std.proofs.Math.Nat.{mul-le-mul, div-le_self}
-use Rattle.std.proofs.lemmas.Int.{ints, to_z-of_z, unsigned_abs-mul, fits_signed_from_abs}
+use Rattle.std.proofs.lemmas.Int.{ints, unsigned_abs-mul}
 use Rattle.std.proofs.lemmas.Bool.Decides.{nat_tests}
 use Rattle.whole_numbers.specs.Words.{Word, size}
 use Rattle.whole_numbers.specs.Quotients.{floor_over}
-use Rattle.whole_numbers.proofs.LeastLaws.{least_below_is}
 use Rattle.whole_numbers.proofs.WordLaws.{two_pow_above}
-use Rattle.one_row.specs.declared.Pilot.{Pilot}
-use Rattle.one_row.specs.Rules.{middle, shift_of, moved}
-use Rattle.one_row.specs.Sizes.{IsPilot}
+use Rattle.one_row.specs.Rules.{middle}
 
 product_le : (x a y b : ℕ) → x ≤ a → y ≤ b → x * y ≤ a * b
 product_le x a y b h l = mul-le-mul h l

@@ -1,5 +1,5 @@
 -- How large differences and multiples of words are.
-use Rattle.std.proofs.Common.{◌≡◌, ℕ, ℤ, pos, negsuc, suc, ◌+ℤ◌, ◌*ℤ◌, ◌*◌, ◌+◌, ◌^◌, ◌≤◌, ◌<◌, unsigned_abs, FitsSigned, arith}
+use Rattle.std.proofs.Common.{◌≡◌, ℤ, pos, negsuc, suc, ◌*ℤ◌, ◌*◌, ◌+◌, ◌^◌, ◌≤◌, ◌<◌, unsigned_abs, FitsSigned, arith}
 use Rattle.std.proofs.Math.IntN.{◌-ℤ◌}
 use Rattle.std.specs.Int.{w128}
 use Rattle.std.proofs.Math.Nat.{mul-le-mul, mul-le-mul_left}

@@ -1,12 +1,7 @@
-use Rattle.std.specs.Prelude.{ℕ, ℤ, pos, negsuc, ◌≡◌, ◌+◌, ◌*◌, ◌^◌, ◌/◌, Option, Some, None, refl, ◌+ℤ◌, ◌-ℤ◌}
-use Rattle.decimal_e.specs.Decimals.{Decimal}
+use Rattle.std.specs.Prelude.{pos, negsuc, ◌≡◌, ◌*◌, ◌^◌, Some, refl}
 use Rattle.one_row.specs.declared.Equation.{Equation}
 use Rattle.one_row.specs.declared.Working.{Working}
-use Rattle.one_row.specs.declared.Pilot.{Pilot}
-use Rattle.one_row.specs.declared.Certificate.{Certificate}
-use Rattle.one_row.specs.declared.Printed.{Printed}
-use Rattle.one_row.specs.declared.Solved.{Solved}
-use Rattle.one_row.specs.Rules.{working, pilot, start_vector, certificate, solved_from}
+use Rattle.one_row.specs.Rules.{working, solved_from}
 use Rattle.whole_numbers.specs.Words as X
 use Rattle.whole_numbers.specs.Least.{least_below}
 

@@ -1,19 +1,16 @@
 -- What the working word and its right side are.
-use Rattle.std.proofs.Common.{◌≡◌, ℕ, zero, suc, ℤ, pos, negsuc, neg_ℤ, ◌+ℤ◌, ◌≤ℤ◌, ◌<ℤ◌, unsigned_abs, ◌+◌, ◌-◌, ◌*◌, ◌/◌, ◌^◌, ◌≤◌, ◌<◌, Bool, true, false, nat_le, Option, Some, None, arith, refl, sym, ap, ◌∙◌, mul_assoc}
+use Rattle.std.proofs.Common.{◌≡◌, ℕ, zero, suc, ℤ, pos, negsuc, neg_ℤ, ◌+ℤ◌, ◌≤ℤ◌, ◌<ℤ◌, unsigned_abs, ◌+◌, ◌-◌, ◌*◌, ◌/◌, ◌^◌, ◌≤◌, ◌<◌, true, nat_le, Some, None, arith, refl, sym, ap, ◌∙◌, mul_assoc}
 use Rattle.std.proofs.Math.IntN.{◌-ℤ◌}
 use Rattle.std.proofs.Math.Nat.{mul-le-mul_right, le_of_mul-le-mul_right}
 use Rattle.std.proofs.lemmas.Nat.{pow-add, le-div}
-use Rattle.std.proofs.lemmas.Int.{ints, to_z-of_z}
+use Rattle.std.proofs.lemmas.Int.{ints}
 use Rattle.std.proofs.lemmas.Bool.Decides.{nat_tests}
 use Rattle.whole_numbers.specs.Words.{Word, size}
 use Rattle.whole_numbers.specs.Scaling.{word_scale10, floor_scaled, ceil_scaled}
 use Rattle.whole_numbers.specs.Least.{least_below}
-use Rattle.whole_numbers.proofs.LeastLaws.{least_below_is}
 use Rattle.whole_numbers.proofs.Powers.{ten_above}
 use Rattle.whole_numbers.proofs.Scaled.{floor_scaled_le_ceil}
-use Rattle.one_row.specs.declared.Working.{Working}
 use Rattle.one_row.specs.Rules.{within, exponent, scaled}
-use Rattle.one_row.specs.Sizes.{IsExponent, IsWorking}
 
 -- ---- two tests that say the same
 pub same_tests : (a b c d : ℕ) → (a ≤ b → c ≤ d) → (c ≤ d → a ≤ b) → nat_le a b ≡ nat_le c d

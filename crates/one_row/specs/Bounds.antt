@@ -1,8 +1,8 @@
 -- What the printed numbers of one normal equation mean.
 --
 -- Fractions are compared by cross-multiplication: no scale, no interval and no rounding occurs in an exact system.
-use Rattle.std.specs.Prelude.{ℕ, ℤ, pos, negsuc, zero, suc, ◌+ℤ◌, ◌-ℤ◌, ◌*ℤ◌, neg_ℤ, ◌≤ℤ◌, ◌≡◌, ◌≤◌, ◌<◌, ◌*◌, ◌^◌, unsigned_abs}
-use Rattle.whole_numbers.specs.Words.{Word, Holds}
+use Rattle.std.specs.Prelude.{ℕ, ℤ, pos, ◌+ℤ◌, ◌-ℤ◌, ◌*ℤ◌, ◌≤ℤ◌, ◌≡◌, ◌≤◌, ◌<◌, ◌*◌, ◌^◌, unsigned_abs}
+use Rattle.whole_numbers.specs.Words.{Holds}
 use Rattle.decimal_e.specs.Decimals.{Decimal, ten_above, ten_below}
 use Rattle.decimal_e.specs.Fractions.{numerator, denominator}
 use Rattle.decimal_e.specs.Scales.{decimal_word}

@@ -2,7 +2,7 @@
 --
 -- Source: the normal equation N (x - x0) = b of Brockmann 1997; the residual test of Rump 2010 with an approximate
 -- inverse. The scales and bounds are this program's own.
-use Rattle.std.specs.Prelude.{Bool, ℕ, ℤ, pos, negsuc, zero, suc, ◌+ℤ◌, ◌-ℤ◌, ◌*ℤ◌, neg_ℤ, ◌+◌, ◌-◌, ◌*◌, ◌/◌, ◌^◌, ◌≤ℤ◌, ◌<ℤ◌, ◌≡◌, ◌&&◌, nat_le, nat_lt, if◌then◌else◌, unsigned_abs, Option, Some, None, List, [], ◌∷◌, find, option_and_then}
+use Rattle.std.specs.Prelude.{Bool, ℕ, ℤ, pos, negsuc, zero, suc, ◌+ℤ◌, ◌-ℤ◌, ◌*ℤ◌, neg_ℤ, ◌+◌, ◌-◌, ◌*◌, ◌/◌, ◌^◌, ◌≤ℤ◌, ◌<ℤ◌, ◌≡◌, ◌&&◌, nat_le, nat_lt, if◌then◌else◌, unsigned_abs, Option, Some, None, [], ◌∷◌, find, option_and_then}
 use Rattle.std.specs.Option.{option_map}
 use Rattle.whole_numbers.specs.Words.{Word, size, point_word, word_sub, word_mul, word_shift}
 use Rattle.whole_numbers.specs.Quotients.{floor_over}

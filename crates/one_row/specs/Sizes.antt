@@ -1,5 +1,5 @@
 -- How large the numbers of the rules are.
-use Rattle.std.specs.Prelude.{ℕ, ℤ, pos, negsuc, ◌≤ℤ◌, ◌≤◌, ◌^◌}
+use Rattle.std.specs.Prelude.{ℤ, pos, negsuc, ◌≤ℤ◌, ◌≤◌, ◌^◌}
 use Rattle.whole_numbers.specs.Words.{size}
 use Rattle.one_row.specs.declared.Working.{Working}
 use Rattle.one_row.specs.declared.Pilot.{Pilot}

@@ -98,7 +98,9 @@ fn parts_of(w: &Working, p: &Pilot) -> u64
     ensures value { result ≡ parts_of w.now p.now }
     ensures bound { result ≤ 2 ^ 30 }
 {
-    defect(w, p).min(two_to(p.g + 60)).div_ceil(two_to(p.g + 30)) as u64
+    defect(w, p)
+        .min(two_to(p.g + 60))
+        .div_ceil(two_to(p.g + 30)) as u64
 }
 
 /// What the pilot makes of what the estimate leaves, rounded up.
@@ -110,7 +112,9 @@ fn error_of(w: &Working, p: &Pilot, y: i128) -> u128
 {
     let v = left(w, y);
     let h = least_shift(&v);
-    by_pilot(p, &v.shift_out(h)).mag().div_ceil(two_to(p.g + 60 - h))
+    by_pilot(p, &v.shift_out(h))
+        .mag()
+        .div_ceil(two_to(p.g + 60 - h))
 }
 
 /// The error over what the parts leave of a whole, rounded up.
@@ -139,7 +143,11 @@ fn passed(parts: u64, error: u128) -> Option<Certificate>
     ensures bound { IfSome result (λ c. c.radius ≤ 2 ^ 97) }
 {
     if error <= ERROR_LIMIT && parts < WHOLE {
-        Some(Certificate { parts, error, radius: radius_from(parts, error) })
+        Some(Certificate {
+            parts,
+            error,
+            radius: radius_from(parts, error),
+        })
     } else {
         None
     }

@@ -67,5 +67,8 @@ pub fn pilot(root: u128) -> Option<Pilot>
 {
     let g = first_small(root, &SCALES)?;
     let down = going_down(going_up(g, root), root);
-    Some(Pilot { g, word: ((down + 512) / 1024) as u64 })
+    Some(Pilot {
+        g,
+        word: ((down + 512) / 1024) as u64,
+    })
 }

@@ -38,7 +38,11 @@ fn limited_ends(lower: i128, upper: i128, estimate: i128) -> Option<Shown>
 {
     let bounds_fit = lower.unsigned_abs() <= BOUND_LIMIT && upper.unsigned_abs() <= BOUND_LIMIT;
     if bounds_fit && estimate.unsigned_abs() <= ESTIMATE_LIMIT {
-        Some(Shown { lower, upper, estimate })
+        Some(Shown {
+            lower,
+            upper,
+            estimate,
+        })
     } else {
         None
     }
@@ -120,7 +124,13 @@ fn place_of(w: &Working) -> i32
 fn with_residual(e: &Shown, residual: u128, place: i32) -> Printed
     ensures { result ≡ record { lower = e.now.lower; upper = e.now.upper; estimate = e.now.estimate; residual = residual; place = place } }
 {
-    Printed { lower: e.lower, upper: e.upper, estimate: e.estimate, residual, place }
+    Printed {
+        lower: e.lower,
+        upper: e.upper,
+        estimate: e.estimate,
+        residual,
+        place,
+    }
 }
 
 /// The printed numbers, and None exactly where one of them is too great.

@@ -80,7 +80,11 @@ fn exponent(hi: i128) -> i32
     ensures value { result ≡ exponent hi }
     ensures range { IsExponent result }
 {
-    if hi <= 0 { 0 } else { least_fitting(hi.unsigned_abs()) as i32 - 9 }
+    if hi <= 0 {
+        0
+    } else {
+        least_fitting(hi.unsigned_abs()) as i32 - 9
+    }
 }
 
 /// The power of ten for the working word.

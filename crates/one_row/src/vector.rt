@@ -84,7 +84,11 @@ fn limited_estimate(v: i128) -> Option<i128>
     ensures value { result ≡ (if nat_le (unsigned_abs v) (2 ^ 64) then Some v else None) }
     ensures bound { IfSome result (λ v. unsigned_abs v ≤ 2 ^ 64) }
 {
-    if v.unsigned_abs() <= ESTIMATE_LIMIT { Some(v) } else { None }
+    if v.unsigned_abs() <= ESTIMATE_LIMIT {
+        Some(v)
+    } else {
+        None
+    }
 }
 
 /// The next estimate, and None exactly where it is greater than 2^64 in size.

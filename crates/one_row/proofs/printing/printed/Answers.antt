@@ -1,4 +1,4 @@
-use Rattle.std.proofs.Common.{arith, FitsSigned, ap, ◌∙◌}
+use Rattle.std.proofs.Common.{arith, FitsSigned, ◌∙◌}
 use Rattle.std.specs.Int.{w32, w128}
 use Rattle.std.proofs.lemmas.Int.{ints, to_z-of_z}
 use Rattle.one_row.proofs.PrintingLaws.{printed_no_ends, printed_no_word, printed_all}

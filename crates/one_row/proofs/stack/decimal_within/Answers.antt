@@ -1,4 +1,4 @@
-use Rattle.std.proofs.Common.{◌≡◌, ◌∙◌, arith}
+use Rattle.std.proofs.Common.{arith}
 use Rattle.std.proofs.lemmas.Int.{to_z-of_z}
 use Rattle.one_row.proofs.WorkingLaws.{ends_ordered}
 use Rattle.one_row.proofs.stack.decimal_within.Goals as goal

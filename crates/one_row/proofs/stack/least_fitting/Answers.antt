@@ -1,4 +1,4 @@
-use Rattle.std.proofs.Common.{arith, nat_le, ◌*◌, ◌^◌, ◌∙◌, sym}
+use Rattle.std.proofs.Common.{arith, nat_le, ◌*◌, ◌^◌, sym}
 use Rattle.whole_numbers.proofs.LeastLaws.{least_below_is}
 use Rattle.one_row.proofs.WorkingLaws.{fits_at_last}
 use Rattle.one_row.proofs.stack.least_fitting.Goals as goal

@@ -1,4 +1,4 @@
-use Rattle.std.proofs.Common.{◌≡◌, ◌∙◌, arith}
+use Rattle.std.proofs.Common.{arith}
 use Rattle.std.proofs.lemmas.Int.{to_z-of_z}
 use Rattle.one_row.proofs.WorkingLaws.{scaled_no_word, scaled_no_right, scaled_both, within_small}
 use Rattle.one_row.proofs.stack.scaled.Goals as goal

@@ -1,6 +1,5 @@
-use Rattle.std.proofs.Common.{arith, ◌≤◌, ◌^◌, unsigned_abs, FitsSigned}
-use Rattle.std.specs.Int.{w128}
-use Rattle.std.proofs.lemmas.Int.{to_z-of_z, ints, unsigned_abs-mul}
+use Rattle.std.proofs.Common.{arith, ◌≤◌, ◌^◌, unsigned_abs}
+use Rattle.std.proofs.lemmas.Int.{to_z-of_z, unsigned_abs-mul}
 use Rattle.one_row.specs.Rules.{middle}
 use Rattle.one_row.proofs.VectorLaws.{middle_small, taken_fits}
 use Rattle.one_row.proofs.vector.taken.Goals as goal
