@@ -1,0 +1,5 @@
+pub mod Zeros
+pub mod Ordered
+pub mod Scaled
+pub mod Derived
+pub mod Merging

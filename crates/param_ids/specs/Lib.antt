@@ -1,0 +1,6 @@
+pub mod Texts
+pub mod Ids
+pub mod Order
+pub mod Lists
+pub mod Tables
+pub mod Union

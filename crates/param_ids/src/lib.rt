@@ -1,0 +1,16 @@
+//! The names of parameters: what a row of a SINEX text calls the number that it gives.
+#![tactic(auto)]
+
+mod ids;
+mod listing;
+mod pushing;
+mod scaling;
+mod texts;
+
+pub use ids::{IdFault, ParamId};
+pub use listing::{Names, NamesError};
+pub use pushing::push_id;
+pub use scaling::{Scales, scale_of};
+
+#[cfg(test)]
+mod tests;
