@@ -1,22 +1,21 @@
 -- The certificate's numbers at one row.
-use Rattle.std.proofs.Common.{◌≡◌, ℕ, ℤ, pos, negsuc, ◌+ℤ◌, neg_ℤ, ◌*◌, ◌+◌, ◌-◌, ◌^◌, ◌≤◌, ◌<◌, unsigned_abs, true, nat_le, min, arith, refl, sym, ap, ◌∙◌}
-use Rattle.std.proofs.Math.Nat.{mul-le-mul, mul-le-mul_right}
+use Rattle.std.proofs.Common.{◌≡◌, ℕ, ℤ, pos, ◌+ℤ◌, ◌*◌, ◌+◌, ◌-◌, ◌^◌, ◌≤◌, ◌<◌, unsigned_abs, true, nat_le, min, arith, refl, sym, ap, ◌∙◌}
+use Rattle.std.proofs.Math.Nat.{mul-le-mul_right}
 use Rattle.std.proofs.Math.Decide.{dec_lt}
 use Rattle.std.proofs.lemmas.Nat.{pow-add}
 use Rattle.std.proofs.lemmas.Int.{ints, to_z-of_z}
-use Rattle.std.proofs.lemmas.Bool.Decides.{nat_tests}
+use Rattle.std.proofs.lemmas.Bool.{le-leb}
 use Rattle.std.proofs.lemmas.Grind.{div_ceil_times}
 use Rattle.whole_numbers.specs.Words.{Word, size, word_sub, word_scale, word_shift, point_word, sum_words}
 use Rattle.whole_numbers.specs.Least.{least_below}
+use Rattle.whole_numbers.proofs.Sizes.{size_shift}
 use Rattle.whole_numbers.proofs.WordLaws.{two_pow_above}
-use Rattle.whole_numbers.specs.Quotients.{floor_over, ceil_over, up_over}
+use Rattle.one_row.proofs.WordSizes.{product_le}
+use Rattle.whole_numbers.specs.Quotients.{up_over}
 use Rattle.sys_model.specs.Systems.{left_word, defect_size}
 use Rattle.one_row.specs.declared.Working.{Working}
 use Rattle.one_row.specs.declared.Pilot.{Pilot}
 use Rattle.one_row.specs.Rules.{row_table, pilot_table, shift_of_left, error_of}
-
-product_le : (x a y b : ℕ) → x ≤ a → y ≤ b → x * y ≤ a * b
-product_le x a y b h l = mul-le-mul h l
 
 none-+ℤ : (x : ℤ) → pos 0 +ℤ x ≡ x
 none-+ℤ x = omega (arith, ints)
@@ -35,19 +34,10 @@ taken_size a y h l = omega (arith, product_le (unsigned_abs y) (2 ^ 64) (size a)
 pub ruleset left_rules = (to_z-of_z, left_is, taken_size)
 
 -- after 60 places a word of at most 2^126 is at most 2^66
-pub low_last : (z : ℤ) → unsigned_abs z ≤ 2 ^ 126 → unsigned_abs (floor_over z (2 ^ 60)) ≤ 2 ^ 66
-low_last (pos a) h = omega arith
-low_last (negsuc a) h = omega arith
-
-pub high_last : (z : ℤ) → unsigned_abs z ≤ 2 ^ 126 → unsigned_abs (ceil_over z (2 ^ 60)) ≤ 2 ^ 66
-high_last z h = let t = low_last (neg_ℤ z) (omega (arith, ints)) in omega (arith, ints, t)
-
 pub shifted_last : (w : Word) (h : ℕ) → size w ≤ 2 ^ 126 → 60 ≤ h → h ≤ 60 → nat_le (size (word_shift h w)) (2 ^ 66) ≡ true
 shifted_last w h s l m =
     let e : h ≡ 60 = omega arith in
-    let p = low_last w.lo (omega arith) in
-    let q = high_last w.hi (omega arith) in
-    rw e (grind (arith, nat_tests, p, q))
+    rw e (le-leb (size (word_shift 60 w)) (2 ^ 66) (size_shift 60 w (2 ^ 66) (omega arith)))
 
 -- ---- the defect
 pub defect_is : (w : Working) (p : Pilot) → size (word_sub (point_word (pos (2 ^ (p.g + 60)))) (word_scale (pos p.word) w.a)) ≡ defect_size 1 (2 ^ (p.g + 60)) (pilot_table p) (row_table w) 0 0

@@ -1,31 +1,19 @@
 -- How large the words of the a priori value and the terms of the estimate are.
-use Rattle.std.proofs.Common.{◌≡◌, ℕ, suc, ℤ, pos, negsuc, neg_ℤ, ◌+ℤ◌, ◌*ℤ◌, ◌≤ℤ◌, ◌+◌, ◌-◌, ◌*◌, ◌/◌, ◌^◌, ◌≤◌, ◌<◌, unsigned_abs, None, arith, sym, ap, ◌∙◌}
-use Rattle.std.proofs.Math.Nat.{mul-le-mul, mul-le-mul_right, div-le_of_le-mul, div-mul-le_self}
+use Rattle.std.proofs.Common.{◌≡◌, ℕ, suc, ℤ, pos, negsuc, ◌+ℤ◌, ◌*ℤ◌, ◌≤ℤ◌, ◌+◌, ◌-◌, ◌*◌, ◌^◌, ◌≤◌, unsigned_abs, None, arith, sym, ap, ◌∙◌}
+use Rattle.std.proofs.Math.Nat.{mul-le-mul, mul-le-mul_right}
 use Rattle.std.proofs.Math.Decide.{dec_le}
 use Rattle.std.proofs.lemmas.Nat.{pow-add}
 use Rattle.std.proofs.lemmas.Int.{ints, to_z-of_z, unsigned_abs-mul}
 use Rattle.std.proofs.lemmas.Bool.Decides.{nat_tests}
 use Rattle.whole_numbers.specs.Words.{Word, size}
-use Rattle.whole_numbers.specs.Quotients.{floor_over, ceil_over}
 use Rattle.whole_numbers.specs.Scaling.{floor_scaled, ceil_scaled}
 use Rattle.whole_numbers.proofs.Powers.{ten_le, ten_above}
 use Rattle.decimal_e.specs.Decimals.{Decimal, ten_above as ten_over, ten_below}
 use Rattle.decimal_e.specs.Fractions.{IsAtMost}
 use Rattle.decimal_e.specs.Scales.{decimal_word}
 use Rattle.one_row.specs.Rules.{within}
-use Rattle.one_row.proofs.VectorLaws.{floor_small}
-
--- ---- a quotient is small where the number is
-pub floor_most : (z : ℤ) (d m : ℕ) → 0 < d → unsigned_abs z ≤ m * d → unsigned_abs (floor_over z d) ≤ m
-floor_most (pos a) d m h l = div-le_of_le-mul d (omega arith)
-floor_most (negsuc a) d m h l =
-    elim (dec_le m (a / d)) [
-      | yes s ↦ let p = mul-le-mul_right d s in absurd (omega (arith, p, div-mul-le_self a d))
-      | no s ↦ omega arith
-    ]
-
-pub ceil_most : (z : ℤ) (d m : ℕ) → 0 < d → unsigned_abs z ≤ m * d → unsigned_abs (ceil_over z d) ≤ m
-ceil_most z d m h l = let t = floor_most (neg_ℤ z) d m h (omega (arith, ints)) in omega (arith, ints, t)
+use Rattle.one_row.proofs.VectorLaws.{quotient_small}
+use Rattle.whole_numbers.proofs.Sizes.{floor_small, ceil_small}
 
 -- ---- z * 10^e is at most m in size, so z * 10^(e + k) is at most m * 10^k
 size_times : (z : ℤ) (m : ℕ) → unsigned_abs (z *ℤ pos m) ≡ unsigned_abs z * m
@@ -56,7 +44,7 @@ floor_below z n k m h =
           rw e (scaled_over z (suc n) (k - suc n) k m (omega arith) h)
       | no l ↦
           let e : negsuc n +ℤ pos k ≡ negsuc (n - k) = omega (arith, ints) in
-          rw e (floor_most z (10 ^ suc (n - k)) (m * 10 ^ k) (ten_above (suc (n - k))) (scaled_under z (suc n) (suc (n - k)) k m (omega arith) h))
+          rw e (floor_small z (10 ^ suc (n - k)) (m * 10 ^ k) (ten_above (suc (n - k))) (scaled_under z (suc n) (suc (n - k)) k m (omega arith) h))
     ]
 
 ceil_below : (z : ℤ) (n k m : ℕ) → unsigned_abs z ≤ m * 10 ^ suc n → unsigned_abs (ceil_scaled z (negsuc n +ℤ pos k)) ≤ m * 10 ^ k
@@ -67,7 +55,7 @@ ceil_below z n k m h =
           rw e (scaled_over z (suc n) (k - suc n) k m (omega arith) h)
       | no l ↦
           let e : negsuc n +ℤ pos k ≡ negsuc (n - k) = omega (arith, ints) in
-          rw e (ceil_most z (10 ^ suc (n - k)) (m * 10 ^ k) (ten_above (suc (n - k))) (scaled_under z (suc n) (suc (n - k)) k m (omega arith) h))
+          rw e (ceil_small z (10 ^ suc (n - k)) (m * 10 ^ k) (ten_above (suc (n - k))) (scaled_under z (suc n) (suc (n - k)) k m (omega arith) h))
     ]
 
 floor_at_most : (z e : ℤ) (k m : ℕ) → unsigned_abs (z *ℤ pos (ten_over e)) ≤ m * ten_below e → unsigned_abs (floor_scaled z (e +ℤ pos k)) ≤ m * 10 ^ k
@@ -96,8 +84,8 @@ raised_small y k h l =
     let p = mul-le-mul h (ten_le k 13 l) in
     omega (arith, unsigned_abs-mul y (pos (10 ^ k)), p)
 
-pub middle_small : (y z : ℤ) → unsigned_abs y ≤ 2 ^ 64 → z ≤ℤ pos 13 → unsigned_abs (floor_scaled y z) ≤ 2 ^ 64 * 10 ^ 13
-middle_small y (pos k) h l = raised_small y k h (omega (arith, ints))
-middle_small y (negsuc k) h l = let t = floor_small y (10 ^ suc k) (ten_above (suc k)) in omega (arith, t)
+pub term_small : (y z : ℤ) → unsigned_abs y ≤ 2 ^ 64 → z ≤ℤ pos 13 → unsigned_abs (floor_scaled y z) ≤ 2 ^ 64 * 10 ^ 13
+term_small y (pos k) h l = raised_small y k h (omega (arith, ints))
+term_small y (negsuc k) h l = let t = quotient_small y (10 ^ suc k) (ten_above (suc k)) in omega (arith, t)
 
-pub ruleset middle_rules = (to_z-of_z, middle_small)
+pub ruleset middle_rules = (to_z-of_z, term_small)

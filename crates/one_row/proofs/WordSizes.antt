@@ -1,10 +1,14 @@
 -- How large differences and multiples of words are.
-use Rattle.std.proofs.Common.{◌≡◌, ℤ, pos, negsuc, suc, ◌*ℤ◌, ◌*◌, ◌+◌, ◌^◌, ◌≤◌, ◌<◌, unsigned_abs, FitsSigned, arith}
+use Rattle.std.proofs.Common.{◌≡◌, ℕ, ℤ, ◌*ℤ◌, ◌*◌, ◌+◌, ◌^◌, ◌≤◌, ◌<◌, unsigned_abs, FitsSigned, arith}
 use Rattle.std.proofs.Math.IntN.{◌-ℤ◌}
 use Rattle.std.specs.Int.{w128}
-use Rattle.std.proofs.Math.Nat.{mul-le-mul, mul-le-mul_left}
+use Rattle.std.proofs.Math.Nat.{mul-le-mul}
 use Rattle.std.proofs.lemmas.Int.{ints, to_z-of_z, unsigned_abs-mul, fits_signed_from_abs}
+use Rattle.whole_numbers.proofs.Sizes.{size_scale}
 use Rattle.whole_numbers.specs.Words.{Word, Within, IsProductRange, size, word_sub, word_scale}
+
+pub product_le : (x a y b : ℕ) → x ≤ a → y ≤ b → x * y ≤ a * b
+product_le x a y b h l = mul-le-mul h l
 
 pub low_fits : (w v : Word) → size w + size v < 2 ^ 127 → FitsSigned w128 (w.lo -ℤ v.hi)
 low_fits w v h = omega (arith, ints)
@@ -16,18 +20,7 @@ pub difference_size : (w v : Word) → size (word_sub w v) ≤ size w + size v
 difference_size w v = omega (arith, ints)
 
 pub multiple_size : (k : ℤ) (w : Word) → size (word_scale k w) ≤ unsigned_abs k * size w
-multiple_size (pos k) w =
-    let l : unsigned_abs w.lo ≤ size w = omega arith in
-    let r : unsigned_abs w.hi ≤ size w = omega arith in
-    let lk = mul-le-mul_left k l in
-    let rk = mul-le-mul_left k r in
-    omega (arith, unsigned_abs-mul (pos k) w.lo, unsigned_abs-mul (pos k) w.hi, lk, rk)
-multiple_size (negsuc k) w =
-    let l : unsigned_abs w.lo ≤ size w = omega arith in
-    let r : unsigned_abs w.hi ≤ size w = omega arith in
-    let lk = mul-le-mul_left (suc k) l in
-    let rk = mul-le-mul_left (suc k) r in
-    omega (arith, unsigned_abs-mul (negsuc k) w.lo, unsigned_abs-mul (negsuc k) w.hi, lk, rk)
+multiple_size k w = size_scale k w (unsigned_abs k) (size w) (omega arith) (omega arith)
 
 pub ruleset difference_rules = (to_z-of_z, low_fits, high_fits, difference_size)
 
