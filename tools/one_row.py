@@ -3,7 +3,7 @@
 
     one_row.py APRIORI MATRIX VECTOR    writes the report of these three field texts (MATRIX may be '-': no matrix line),
                                         or the word `unbuilt`
-    one_row.py                          writes the table of the tests in crates/combine_cli/src/tests.rt
+    one_row.py                          writes the rows of the tests in crates/combine_cli/src/tests.rt
 
 Everything is exact, in Python's whole numbers and fractions. The rules are those that crates/one_row/specs/Rules.antt
 states; nothing here was taken from the program's code. A word is a pair (lo, hi) of whole numbers.
@@ -219,6 +219,9 @@ def report(apriori, matrix, vector):
 
 # a priori value, matrix element ('-': no matrix line), vector element
 ROWS = [
+    # two that were worked by hand
+    (".000000000000000E+00", ".30000000000000E+01", ".100000000000000E+01"),
+    (".100000000000000E+01", "0.10000000000000E+17", "0"),
     # both signs of the a priori value and of the vector element, and a zero vector
     ("-.123456789012345E+03", ".70000000000000E+01", "-.250000000000000E+01"),
     ("-4", "9", "36"),
@@ -277,8 +280,8 @@ def main(words):
             try:
                 found = numbers(field(row[0]), None if row[1] == "-" else field(row[1]), field(row[2]))
             except Unbuilt:
-                found = ("", "")
-            print("    [" + ", ".join(f'"{text}"' for text in (*row, *found)) + "],")
+                found = ("unbuilt",)
+            print(" | ".join((*row, *found)))
     else:
         sys.exit(__doc__)
 
