@@ -1,5 +1,5 @@
 -- What a run leaves, by how far it came.
-use Rattle.std.proofs.Common.{◌≡◌, ◌⊎◌, ◌++◌, ◌∷◌, ℕ, Bool, false, List, [], Option, Some, Result, Ok, Err, refl, sym, ◌∙◌, ap, subst, inl, inr, append-nil, arith}
+use Rattle.std.proofs.Common.{◌≡◌, ◌⊎◌, ◌++◌, ◌∷◌, ℕ, Bool, false, List, [], Option, Some, Result, Ok, Err, OnErr, refl, sym, ◌∙◌, ap, subst, inl, inr, append-nil, arith}
 use Rattle.std.specs.List.{Contains}
 use Rattle.desk_io.specs.Content.{File, Content, KeepsAll, IsFront}
 use Rattle.desk_io.specs.Desk.{Says}
@@ -10,10 +10,12 @@ use Rattle.combine_cli.specs.Headline.{HasVerdict}
 use Rattle.combine_cli.specs.Plan.{IsPlanned, SaysPart, CutShort}
 use Rattle.combine_cli.proofs.Verdicts.{one_verdict, planned_verdict}
 
--- the bytes that were passed are the text's
-pub writes_text : (name bytes text : List ℕ) (old new : Content) (result : Result (Unit {0}) DeskError) → bytes ≡ text → WritesFile name bytes old new result → WritesFile name text old new result
-writes_text name bytes text old new result e w = subst (λ t. WritesFile name t old new result) e w
+-- a fact is what an error needs
+pub on_err : {T E : Type 0} (r : Result T E) {P : Type 0} → P → OnErr r P
+on_err (Ok x) p = tt
+on_err (Err e) p = p
 
+-- the bytes that were passed are the text's
 pub says_text : (bytes text : List ℕ) (old new : Content) (result : Result (Unit {0}) DeskError) → bytes ≡ text → Says bytes old new result → Says text old new result
 says_text bytes text old new result e s = subst (λ t. Says t old new result) e s
 

@@ -1,11 +1,12 @@
 // The top call.
 ghost use Rattle.std.specs.Prelude.{◌≡◌, ◌≢◌, ◌≤◌, ◌⊎◌, ℕ, List, IsTrue, IfOk, OnErr, map, Contains, Ok, string_bytes};
 ghost use Rattle.desk_io.specs.Desk.{HasCause, Rose};
+ghost use Rattle.desk_io.specs.Whole.{WritesFile};
 ghost use Rattle.combine_cli.specs.Verdict.{Outcome, Output, IsVerdict, IsStatus, Leaves, Stopped, desk_line};
 ghost use Rattle.combine_cli.specs.Headline.{HasVerdict, IsCertifiedRun};
-ghost use Rattle.combine_cli.specs.Plan.{IsRefusalStatus, SaysPart, CutShort};
+ghost use Rattle.combine_cli.specs.Plan.{output_of, IsRefusalStatus, SaysPart, CutShort};
 
-use crate::decide::{Stop, decide};
+use crate::decide::{Plan, Stop, decide};
 use desk_io::{Desk, DeskError, write_file};
 use std::alloc::Global;
 use std::thread::Threads;
@@ -13,6 +14,14 @@ use std::thread::Threads;
 const MEMORY_LINE: &[u8] = b"snxcomb: memory\n";
 
 const DESK_LINE: &[u8] = b"snxcomb: desk\n";
+
+// Writes the file that was planned.
+fn write_plan<D: Desk>(desk: &mut D, plan: &Plan<'_>) -> Result<(), DeskError>
+    ensures content { IsTrue D.tells → WritesFile (output_of plan.now).name (output_of plan.now).text (D.content desk.old) (D.content desk.new) result }
+    ensures cause { HasCause (D.faults desk.old) (D.faults desk.new) result }
+{
+    write_file(desk, plan.name, &plan.text)
+}
 
 // Does what was decided. An error says that it was cut short.
 fn carry_out<D: Desk>(alloc: Global, words: &[String], desk: &mut D) -> Result<u8, DeskError>
@@ -24,14 +33,14 @@ fn carry_out<D: Desk>(alloc: Global, words: &[String], desk: &mut D) -> Result<u
     ensures certified { IsTrue D.tells → IfOk result (λ status. status ≡ 0 → IsCertifiedRun (map string_bytes words.now) (D.content desk.old).files (D.content desk.new).files) }
 {
     match decide(alloc, words, desk) {
-        Ok(plan) => match write_file(desk, plan.name, &plan.text) {
-            Ok(()) => Ok(0),
-            Err(e) => Err(e),
-        },
-        Err(Stop::Refused { status, line }) => match desk.say(&line) {
-            Ok(()) => Ok(status),
-            Err(e) => Err(e),
-        },
+        Ok(plan) => {
+            write_plan(desk, &plan)?;
+            Ok(0)
+        }
+        Err(Stop::Refused { status, line }) => {
+            desk.say(&line)?;
+            Ok(status)
+        }
         Err(Stop::Fault) => Err(DeskError::Fault),
         Err(Stop::Memory) => Err(DeskError::Memory),
     }
