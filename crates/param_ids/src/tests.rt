@@ -47,7 +47,8 @@ fn reads_names(rt: HostRuntime) -> Result<(), Fail> {
     let blank = read(b"     1        ABCD  A    1 24:001:00000");
     assert_eq!(rt; blank, Err(IdFault::Field));
     let shape = read(b"     1 STAX   ABCD  A    1 24:1:0");
-    assert_eq!(rt; shape, Err(IdFault::Epoch(EpochFault::Shape)));
+    let shape = crosses_threads(&shape);
+    assert_eq!(rt; *shape, Err(IdFault::Epoch(EpochFault::Shape)));
     Ok(())
 }
 
@@ -96,7 +97,9 @@ fn lists_names(rt: HostRuntime) -> Result<(), Fail> {
         with_soln(b'3'),
         with_soln(b'2'),
     ];
-    let least = match Names::from_list(rt.alloc(), &twice) {
+    let repeated = Names::from_list(rt.alloc(), &twice);
+    crosses_threads(&repeated);
+    let least = match repeated {
         Err(NamesError::Repeated { id }) => id,
         _ => with_soln(b'9'),
     };
