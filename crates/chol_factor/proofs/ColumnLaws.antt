@@ -1,0 +1,142 @@
+-- A column in the making, word by word, and the columns one by one.
+use Rattle.std.proofs.Common.{◌≡◌, ◌≤◌, ◌<◌, ◌+◌, ◌*◌, ◌^◌, ◌∙◌, ◌⊎◌, inl, inr, ℕ, zero, suc, ℤ, pos, negsuc, ◌*ℤ◌, ◌≤ℤ◌, unsigned_abs, List, length, sym, ap, subst, arith}
+use Rattle.std.specs.Int.{IsIsqrt}
+use Rattle.std.proofs.Math.Decide.{dec_lt}
+use Rattle.std.proofs.Math.Nat.{mul-le-mul}
+use Rattle.std.proofs.lemmas.Int.{ints}
+use Rattle.whole_numbers.specs.Sum.{sum_to}
+use Rattle.whole_numbers.proofs.Sums.{sum_to_same}
+use Rattle.chol_factor.specs.Factor.{FactorTable, factor_word, part, ratio, left_of, IsRoot, IsColumn, HasColumns, IsPivot}
+use Rattle.chol_factor.specs.Making.{SetsWord, AgreeBefore, IsDiagonal, IsBounded, IsStuck}
+use Rattle.chol_factor.specs.Squares.{at}
+use Rattle.chol_factor.proofs.Alone.{equal_parts, equal_ratios, root_alone, left_alone, factor_alone}
+
+-- ---- one number
+-- the sum over two rows is that of the table's words
+pub taken_is : (f : FactorTable) (i j : ℕ) (a b : List ℤ) → length a ≡ j → ((c : ℕ) → c < j → at a c ≡ factor_word f i c) → ((c : ℕ) → c < j → at b c ≡ factor_word f j c) → sum_to (length a) (λ k. part (at a k) (at b k)) ≡ sum_to j (λ k. part (factor_word f i k) (factor_word f j k))
+taken_is f i j a b len left right =
+    ap (λ n. sum_to n (λ k. part (at a k) (at b k))) len
+    ∙ sum_to_same j (λ k. part (at a k) (at b k)) (λ k. part (factor_word f i k) (factor_word f j k)) (λ k h. equal_parts (at a k) (factor_word f i k) (at b k) (factor_word f j k) (left k h) (right k h))
+
+root_small : (k : ℕ) → k * k ≤ 2 ^ 121 → k ≤ 2 ^ 61
+root_small k h =
+    elim (dec_lt (2 ^ 61) k) [
+      | yes l ↦ let m : 2 ^ 61 ≤ k = omega arith in let p = mul-le-mul m m in absurd (omega (arith, p))
+      | no l ↦ omega arith
+    ]
+
+pub diagonal_found : (t r : ℤ) → pos 1 ≤ℤ t → unsigned_abs t ≤ 2 ^ 61 → IsIsqrt (t *ℤ pos (2 ^ 60)) r → IsDiagonal t r
+diagonal_found (pos a) r some small (k, is, low, high) =
+    let fits = root_small k (omega (arith, low)) in
+    record {
+      pivot = some;
+      root = record { least = omega (arith, ints, is); square_le = rw is (omega (arith, ints, low)); next_square_gt = rw is (omega (arith, ints, high)) };
+      left_fits = small;
+      fits = rw is fits;
+    }
+diagonal_found (negsuc a) r some small is = absurd (omega (arith, ints))
+
+diagonal_positive : (a r : ℤ) → pos 1 ≤ℤ a → IsRoot a r → pos 1 ≤ℤ r
+diagonal_positive a (pos zero) some p = absurd (omega (arith, ints, p.next_square_gt))
+diagonal_positive a (pos (suc r)) some p = omega (arith, ints)
+diagonal_positive a (negsuc r) some p = absurd (omega (arith, ints, p.least))
+
+pub bounded_same : (a b r s : ℤ) → a ≡ b → r ≡ s → IsBounded a r → IsBounded b s
+bounded_same a b r s e h p = subst (IsBounded b) h (subst (λ x. IsBounded x r) e p)
+
+-- ---- a word written into column j
+pub agree_set : (n : ℕ) (o f g : FactorTable) (i j : ℕ) (v : ℤ) → f.size ≡ n → AgreeBefore n (factor_word o) (factor_word f) j → SetsWord f g i j v → AgreeBefore n (factor_word o) (factor_word g) j
+agree_set n o f g i j v size kept s a b column lower row = kept a b column lower row ∙ sym (s.others a b (omega arith) (omega arith) (λ e. let p = e.1 in absurd (omega arith)))
+
+pub agree_self : (n : ℕ) (f g : FactorTable) (i j : ℕ) (v : ℤ) → n ≤ f.size → SetsWord f g i j v → AgreeBefore n (factor_word f) (factor_word g) j
+agree_self n f g i j v size s a b column lower row = sym (s.others a b (omega arith) (omega arith) (λ e. let p = e.1 in absurd (omega arith)))
+
+last_or_before : (k j : ℕ) → k < j + 1 → (k < j) ⊎ (k ≡ j)
+last_or_before k j h = elim (dec_lt k j) [ yes p ↦ inl p | no p ↦ inr (omega arith) ]
+
+pub column_started : (m : ℕ → ℕ → ℤ) (f g : FactorTable) (j : ℕ) (r : ℤ) → j < f.size → IsDiagonal (left_of m (factor_word f) j j) r → SetsWord f g j j r → IsColumn (j + 1) m (factor_word g) j
+column_started m f g j r row d s =
+    let same = agree_self (j + 1) f g j j r (omega arith) s in
+    let left = left_alone (j + 1) m (factor_word f) (factor_word g) j j same (omega arith) (omega arith) in
+    let here = subst (λ a. IsDiagonal a (factor_word g j j)) left (subst (IsDiagonal (left_of m (factor_word f) j j)) (sym s.here) d) in
+    record {
+      pivot = here.pivot;
+      root = here.root;
+      below = λ i h l. absurd (omega arith);
+      left_fits = λ i h l. let e : j ≡ i = omega arith in subst (λ k. unsigned_abs (left_of m (factor_word g) k j) ≤ 2 ^ 61) e here.left_fits;
+      fits = λ i h l. let e : j ≡ i = omega arith in subst (λ k. unsigned_abs (factor_word g k j) ≤ 2 ^ 61) e here.fits;
+    }
+
+pub column_more : (m : ℕ → ℕ → ℤ) (f g : FactorTable) (i j : ℕ) (a r v : ℤ) → j < i → i < f.size → IsColumn i m (factor_word f) j → a ≡ left_of m (factor_word f) i j → factor_word f j j ≡ r → IsBounded a r → v ≡ ratio a r → SetsWord f g i j v → IsColumn (i + 1) m (factor_word g) j
+column_more m f g i j a r v lower row p at_a at_r bounded quotient s =
+    let b = bounded_same a (left_of m (factor_word f) i j) r (factor_word f j j) at_a (sym at_r) bounded in
+    let is = quotient ∙ equal_ratios a (left_of m (factor_word f) i j) r (factor_word f j j) at_a (sym at_r) in
+    let same = agree_self (i + 1) f g i j v (omega arith) s in
+    let left = λ (k : ℕ) (h : j ≤ k) (l : k < i + 1). left_alone (i + 1) m (factor_word f) (factor_word g) k j same h l in
+    let word = λ (k : ℕ) (l : k < i). sym (s.others k j (omega arith) (omega arith) (λ e. let q = e.0 in absurd (omega arith))) in
+    let diagonal = word j lower in
+    let here : factor_word g i j ≡ ratio (left_of m (factor_word g) i j) (factor_word g j j) = s.here ∙ is ∙ equal_ratios _ _ _ _ (left i (omega arith) (omega arith)) diagonal in
+    record {
+      pivot = subst (λ a. pos 1 ≤ℤ a) (left j (omega arith) (omega arith)) p.pivot;
+      root = subst (IsRoot (left_of m (factor_word g) j j)) diagonal (subst (λ a. IsRoot a (factor_word f j j)) (left j (omega arith) (omega arith)) p.root);
+      below = λ k h l. elim (last_or_before k i l) [
+        | inl q ↦ sym (word k q) ∙ p.below k h q ∙ equal_ratios _ _ _ _ (left k (omega arith) l) diagonal
+        | inr q ↦ subst (λ x. factor_word g x j ≡ ratio (left_of m (factor_word g) x j) (factor_word g j j)) (sym q) here
+      ];
+      left_fits = λ k h l. elim (last_or_before k i l) [
+        | inl q ↦ subst (λ a. unsigned_abs a ≤ 2 ^ 61) (left k h l) (p.left_fits k h q)
+        | inr q ↦ subst (λ a. unsigned_abs a ≤ 2 ^ 61) (left k h l) (subst (λ x. unsigned_abs (left_of m (factor_word f) x j) ≤ 2 ^ 61) (sym q) b.left_fits)
+      ];
+      fits = λ k h l. elim (last_or_before k i l) [
+        | inl q ↦ subst (λ a. unsigned_abs a ≤ 2 ^ 61) (word k q) (p.fits k h q)
+        | inr q ↦ subst (λ x. unsigned_abs (factor_word g x j) ≤ 2 ^ 61) (sym q) (subst (λ a. unsigned_abs a ≤ 2 ^ 61) (sym (s.here ∙ is)) b.fits)
+      ];
+    }
+
+-- ---- where column j ends
+pub stuck_diagonal : (n : ℕ) (m f : ℕ → ℕ → ℤ) (j : ℕ) → j < n → ((r : ℤ) → ¬ (IsDiagonal (left_of m f j j) r)) → IsStuck n m f j
+stuck_diagonal n m f j row none g same p =
+    let left = left_alone n m f g j j same (omega arith) row in
+    none (g j j) (subst (λ a. IsDiagonal a (g j j)) (sym left) (record { pivot = p.pivot; root = p.root; left_fits = p.left_fits j (omega arith) row; fits = p.fits j (omega arith) row }))
+
+pub stuck_below : (n : ℕ) (m o f : ℕ → ℕ → ℤ) (i j : ℕ) (a r : ℤ) → j < i → i < n → AgreeBefore n o f j → IsColumn i m f j → a ≡ left_of m f i j → f j j ≡ r → ¬ (IsBounded a r) → IsStuck n m o j
+stuck_below n m o f i j a r lower row kept made at_a at_r none g same p =
+    let agree : AgreeBefore n f g j = λ a b h l r. sym (kept a b h l r) ∙ same a b h l r in
+    let left = left_alone n m f g i j agree (omega arith) row in
+    let left_j = left_alone n m f g j j agree (omega arith) (omega arith) in
+    let root = root_alone (left_of m g j j) (f j j) (g j j) (subst (λ a. IsRoot a (f j j)) left_j made.root) p.root in
+    let word = equal_ratios _ _ _ _ left root ∙ sym (p.below i lower row) in
+    none (bounded_same _ a _ r (sym at_a) at_r (record {
+      left_fits = subst (λ x. unsigned_abs x ≤ 2 ^ 61) (sym left) (p.left_fits i (omega arith) row);
+      fits = subst (λ x. unsigned_abs x ≤ 2 ^ 61) (sym word) (p.fits i (omega arith) row);
+    }))
+
+-- ---- column by column
+column_kept : (n : ℕ) (m f g : ℕ → ℕ → ℤ) (j : ℕ) → j < n → AgreeBefore n f g (suc j) → IsColumn n m f j → IsColumn n m g j
+column_kept n m f g j row same p =
+    let before : AgreeBefore n f g j = λ a b h l r. same a b (omega arith) l r in
+    let left = λ (i : ℕ) (h : j ≤ i) (l : i < n). left_alone n m f g i j before h l in
+    let word = λ (i : ℕ) (h : j ≤ i) (l : i < n). same i j (omega arith) h l in
+    record {
+      pivot = subst (λ a. pos 1 ≤ℤ a) (left j (omega arith) row) p.pivot;
+      root = subst (IsRoot (left_of m g j j)) (word j (omega arith) row) (subst (λ a. IsRoot a (f j j)) (left j (omega arith) row) p.root);
+      below = λ i h l. sym (word i (omega arith) l) ∙ p.below i h l ∙ equal_ratios _ _ _ _ (left i (omega arith) l) (word j (omega arith) row);
+      left_fits = λ i h l. subst (λ a. unsigned_abs a ≤ 2 ^ 61) (left i h l) (p.left_fits i h l);
+      fits = λ i h l. subst (λ a. unsigned_abs a ≤ 2 ^ 61) (word i h l) (p.fits i h l);
+    }
+
+pub columns_more : (n : ℕ) (m f g : ℕ → ℕ → ℤ) (j : ℕ) → j < n → HasColumns n m f j → AgreeBefore n f g j → IsColumn n m g j → HasColumns n m g (j + 1)
+columns_more n m f g j row p same q c h = elim (last_or_before c j h) [
+  | inl before ↦ column_kept n m f g c (omega arith) (λ a b k l r. same a b (omega arith) l r) (p c before)
+  | inr e ↦ subst (IsColumn n m g) (sym e) q
+]
+
+pub pivot_at : (n : ℕ) (m f : ℕ → ℕ → ℤ) (j : ℕ) → j < n → HasColumns n m f j → IsStuck n m f j → IsPivot n m j
+pivot_at n m f j row p stuck = record {
+  within = row;
+  before = (f, p);
+  none = λ g q. stuck g (factor_alone n m f g j p (λ c h. q c (omega arith))) (q j (omega arith));
+}
+
+pub positive_at : (n : ℕ) (m f : ℕ → ℕ → ℤ) (j : ℕ) → IsColumn n m f j → pos 1 ≤ℤ f j j
+positive_at n m f j p = diagonal_positive (left_of m f j j) (f j j) p.pivot p.root

@@ -1,0 +1,4 @@
+pub mod Alone
+pub mod ColumnLaws
+pub mod Places
+pub mod SumLaws

@@ -1,0 +1,4 @@
+pub mod Factor
+pub mod Making
+pub mod Refusals
+pub mod Squares

@@ -1,0 +1,36 @@
+-- A factor in the making, column by column.
+use Rattle.std.specs.Prelude.{◌≡◌, ◌≤◌, ◌<◌, ◌*◌, ◌^◌, ℕ, ℤ, pos, ◌≤ℤ◌, length, unsigned_abs}
+use Rattle.chol_factor.specs.Factor.{FactorTable, factor_word, ratio, IsRoot, IsColumn}
+use Rattle.chol_factor.specs.Squares.{AllAtMost}
+
+-- what each table in the making keeps
+pub record IsSquare (f : FactorTable) : Type 0 where
+  pub few : f.size ≤ 1000
+  pub square : length f.words ≡ f.size * f.size
+  pub small : AllAtMost (2 ^ 61) f.words
+
+-- g is f with v at (i, k)
+pub record SetsWord (f g : FactorTable) (i k : ℕ) (v : ℤ) : Type 0 where
+  pub size : g.size ≡ f.size
+  pub here : factor_word g i k ≡ v
+  pub others : (a b : ℕ) → a < f.size → b < f.size → ¬ ((a ≡ i) × (b ≡ k)) → factor_word g a b ≡ factor_word f a b
+
+-- f and g have equal words in the columns before column j, from the diagonal down
+abbrev pub AgreeBefore : ℕ → (ℕ → ℕ → ℤ) → (ℕ → ℕ → ℤ) → ℕ → Type 0
+AgreeBefore n f g j = (i k : ℕ) → k < j → k ≤ i → i < n → f i k ≡ g i k
+
+-- r is the word of the diagonal where the columns before leave a of it
+pub record IsDiagonal (a r : ℤ) : Type 0 where
+  pub pivot : pos 1 ≤ℤ a
+  pub root : IsRoot a r
+  pub left_fits : unsigned_abs a ≤ 2 ^ 61
+  pub fits : unsigned_abs r ≤ 2 ^ 61
+
+-- a and its quotient by r are in bounds
+pub record IsBounded (a r : ℤ) : Type 0 where
+  pub left_fits : unsigned_abs a ≤ 2 ^ 61
+  pub fits : unsigned_abs (ratio a r) ≤ 2 ^ 61
+
+-- no table that begins with the columns of f before column j has a column j of the factor of m
+abbrev pub IsStuck : ℕ → (ℕ → ℕ → ℤ) → (ℕ → ℕ → ℤ) → ℕ → Type 0
+IsStuck n m f j = (g : ℕ → ℕ → ℤ) → AgreeBefore n f g j → ¬ (IsColumn n m g j)

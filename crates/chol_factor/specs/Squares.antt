@@ -1,0 +1,14 @@
+-- Square tables of whole numbers, kept row by row.
+use Rattle.std.specs.Prelude.{◌≤◌, ◌<◌, ◌+◌, ◌*◌, ℕ, ℤ, pos, List, length, slice_index_or, unsigned_abs}
+
+-- number k of the list
+abbrev pub at : List ℤ → ℕ → ℤ
+at xs k = slice_index_or xs k (pos 0)
+
+-- the number at (i, k) of a table with n columns
+abbrev pub grid : ℕ → List ℤ → ℕ → ℕ → ℤ
+grid n xs i k = at xs (i * n + k)
+
+-- each number of the list is at most a in size
+abbrev pub AllAtMost : ℕ → List ℤ → Type 0
+AllAtMost a xs = (k : ℕ) → k < length xs → unsigned_abs (at xs k) ≤ a

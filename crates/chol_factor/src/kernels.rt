@@ -1,0 +1,32 @@
+//! The sums that the factor and the columns are made of.
+
+ghost use Rattle.std.specs.Prelude.{◌≡◌, ◌≤◌, ◌<◌, ◌*◌, ◌^◌, ℕ, ℤ, length, unsigned_abs};
+ghost use Rattle.whole_numbers.specs.Sum.{sum_to};
+ghost use Rattle.chol_factor.specs.Factor.{part};
+ghost use Rattle.chol_factor.specs.Squares.{at, AllAtMost};
+
+/// The product of two numbers over 2^60, rounded down.
+fn part(a: i64, b: i64) -> i128
+    requires left { unsigned_abs a ≤ 2 ^ 61 }
+    requires right { unsigned_abs b ≤ 2 ^ 61 }
+    ensures value { result ≡ part a b }
+    ensures bound { unsigned_abs result ≤ 2 ^ 62 }
+{
+    (i128::from(a) * i128::from(b)) >> 60
+}
+
+/// The sum of the products of two rows, each over 2^60 and rounded down.
+pub fn parts(a: &[i64], b: &[i64]) -> i128
+    requires lengths { length a.now ≡ length b.now }
+    requires few { length a.now ≤ 1000 }
+    requires left { AllAtMost (2 ^ 61) a.now }
+    requires right { AllAtMost (2 ^ 61) b.now }
+    ensures value { result ≡ sum_to (length a.now) (λ k. part (at a.now k) (at b.now k)) }
+    ensures bound { unsigned_abs result ≤ 1000 * 2 ^ 62 }
+{
+    let mut sum: i128 = 0;
+    for k in 0..a.len() {
+        sum += part(a[k], b[k]);
+    }
+    sum
+}

@@ -1,0 +1,117 @@
+//! The factor of a working table, column by column.
+
+ghost use Rattle.std.specs.Prelude.{◌≡◌, ◌≤◌, ◌<◌, ◌+◌, ◌*◌, ◌^◌, ℕ, ℤ, pos, ◌≤ℤ◌, unsigned_abs, IfOk, IfErr, IfSome, IfNone, SomeIff};
+ghost use Rattle.std.specs.Bool.{OnTrue, OnFalse};
+ghost use Rattle.whole_numbers.specs.Sum.{sum_to};
+ghost use Rattle.chol_factor.specs.Factor.{FactorTable, factor_word, middles, part, ratio, left_of, IsColumn, HasColumns};
+ghost use Rattle.chol_factor.specs.Making.{AgreeBefore, IsDiagonal, IsBounded, IsStuck};
+ghost use Rattle.chol_factor.specs.Refusals.{IsFactorRefused};
+
+use crate::FactorError;
+use crate::kernels::parts;
+use crate::tables::{Factor, Square};
+use equil::Working;
+use std::alloc::Global;
+use whole_numbers::{floor_div, product};
+
+/// The number 1 in units of 2^-60.
+const UNIT: i128 = 1 << 60;
+
+/// The greatest size of a word, and of what is left of one.
+const LIMIT: u128 = 1 << 61;
+
+/// The middle of the working word (i, j).
+fn middle<const N: usize>(w: &Working<N>, i: usize, j: usize) -> i128
+    requires row { i < w.now.a.size }
+    requires column { j < w.now.a.size }
+    ensures value { result ≡ middles w.now.a i j }
+    ensures bound { unsigned_abs result ≤ 2 ^ 61 }
+{
+    w.a.get(i, j).mid()
+}
+
+/// The sum of the parts of rows `i` and `j` before column `j`.
+fn taken(f: &Square, i: usize, j: usize) -> i128
+    requires row { i < f.now.size }
+    requires column { j < f.now.size }
+    ensures value { result ≡ sum_to j (λ k. part (factor_word f.now i k) (factor_word f.now j k)) }
+    ensures bound { unsigned_abs result ≤ 1000 * 2 ^ 62 }
+{
+    parts(f.row_before(i, j), f.row_before(j, j))
+}
+
+/// What the columns before column `j` leave of the middle at (i, j).
+fn left<const N: usize>(f: &Square, w: &Working<N>, i: usize, j: usize) -> i128
+    requires sizes { f.now.size ≡ w.now.a.size }
+    requires row { i < f.now.size }
+    requires column { j < f.now.size }
+    ensures { result ≡ left_of (middles w.now.a) (factor_word f.now) i j }
+{
+    middle(w, i, j) - taken(f, i, j)
+}
+
+/// The word of the diagonal, and None exactly where it has none in bounds.
+fn diagonal(t: i128) -> Option<i64>
+    ensures found { IfSome result (IsDiagonal t) }
+    ensures none { IfNone result ((r : ℤ) → ¬ (IsDiagonal t r)) }
+{
+    if t < 1 || t.unsigned_abs() > LIMIT {
+        return None;
+    }
+    Some(product(t, UNIT).isqrt() as i64)
+}
+
+/// The quotient of what is left by the word of the diagonal, and None exactly where one of them is out of bounds.
+fn quotient(t: i128, root: i64) -> Option<i64>
+    requires { pos 1 ≤ℤ root }
+    ensures { SomeIff result (IsBounded t root) (ratio t root) }
+{
+    if t.unsigned_abs() > LIMIT {
+        return None;
+    }
+    let word = floor_div(product(t, UNIT), i128::from(root));
+    if word.unsigned_abs() > LIMIT {
+        return None;
+    }
+    Some(word as i64)
+}
+
+/// Makes column `j`, after the columns before it, and answers whether there is one. Where there is none, no table with
+/// the same columns before it has one.
+fn make_column<const N: usize>(f: &mut Square, w: &Working<N>, j: usize) -> bool
+    requires sizes { f.old.size ≡ w.now.a.size }
+    requires column { j < f.old.size }
+    ensures size { f.new.size ≡ f.old.size }
+    ensures kept { AgreeBefore w.now.a.size (factor_word f.old) (factor_word f.new) j }
+    ensures made { OnTrue result (IsColumn w.now.a.size (middles w.now.a) (factor_word f.new) j) }
+    ensures stuck { OnFalse result (IsStuck w.now.a.size (middles w.now.a) (factor_word f.old) j) }
+{
+    let Some(root) = diagonal(left(f, w, j, j)) else {
+        return false;
+    };
+    f.set(j, j, root);
+    for i in j + 1..f.size() {
+        let Some(word) = quotient(left(f, w, i, j), root) else {
+            return false;
+        };
+        f.set(i, j, word);
+    }
+    true
+}
+
+/// The factor of the middles of a working table. Pivot comes exactly where a column has none, with the first such.
+pub fn factor<const N: usize>(alloc: Global, w: &Working<N>) -> Result<Factor, FactorError>
+    ensures size { IfOk result (λ f. f.size ≡ w.now.a.size) }
+    ensures columns { IfOk result (λ f. HasColumns w.now.a.size (middles w.now.a) (factor_word f) w.now.a.size) }
+    ensures refused { IfErr result (IsFactorRefused w.now.a.size (middles w.now.a)) }
+{
+    let Ok(mut table) = Square::zeros(alloc, w.a.size()) else {
+        return Err(FactorError::Memory);
+    };
+    for row in 0..table.size() {
+        if !make_column(&mut table, w, row) {
+            return Err(FactorError::Pivot { row });
+        }
+    }
+    Ok(table.finished())
+}
