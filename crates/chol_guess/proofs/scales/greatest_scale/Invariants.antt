@@ -1,0 +1,16 @@
+use Rattle.std.proofs.Common.{◌^◌}
+use Rattle.chol_factor.specs.Factor.{factor_word}
+use Rattle.chol_factor.specs.Squares.{AllAtMost}
+use Rattle.chol_guess.specs.Pilots.{IsScale}
+use Rattle.chol_guess.specs.Rows.{FailAbove}
+use Rattle.chol_guess.proofs.scales.greatest_scale.Given as goal
+
+abbrev pub invariant-scales : goal.invariant-scales
+invariant-scales l = record {
+  scale : IsScale l.g;
+  greater : FailAbove l.f.size (factor_word l.f) l.g;
+  small : AllAtMost (2 ^ 50) l.words;
+}
+
+abbrev pub decreases-scales : goal.decreases-scales
+decreases-scales l = l.g

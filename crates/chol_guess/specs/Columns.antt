@@ -1,0 +1,37 @@
+-- The columns of the approximate inverse of a table, from its factor: 2^(g + 10) times a unit column is divided by the
+-- factor going up the rows, and by its transpose going down. Products and quotients are those of the factor.
+use Rattle.std.specs.Prelude.{◌≡◌, ◌≤◌, ◌<◌, ◌+◌, ◌-◌, ◌^◌, ℕ, suc, ℤ, pos, ◌-ℤ◌, unsigned_abs}
+use Rattle.whole_numbers.specs.Sum.{sum_to, unit}
+use Rattle.chol_factor.specs.Factor.{part, ratio}
+
+-- the sum of h k over the k past i and below n
+abbrev pub sum_past : ℕ → ℕ → (ℕ → ℤ) → ℤ
+sum_past n i h = sum_to (n - suc i) (λ d. h (suc i + d))
+
+-- going up: what the rows before row i leave of 2^(g + 10) times the unit column c
+abbrev pub up_left : (ℕ → ℕ → ℤ) → ℕ → ℕ → (ℕ → ℤ) → ℕ → ℤ
+up_left f g c u i = unit c (pos (2 ^ (g + 10))) i -ℤ sum_to i (λ k. part (f i k) (u k))
+
+pub record IsUp (n : ℕ) (f : ℕ → ℕ → ℤ) (g c : ℕ) (u : ℕ → ℤ) : Type 0 where
+  pub rows : (i : ℕ) → i < n → u i ≡ ratio (up_left f g c u i) (f i i)
+  pub left_fits : (i : ℕ) → i < n → unsigned_abs (up_left f g c u i) ≤ 2 ^ 66
+  pub fits : (i : ℕ) → i < n → unsigned_abs (u i) ≤ 2 ^ 64
+
+-- going down: what the rows past row i leave of u
+abbrev pub down_left : ℕ → (ℕ → ℕ → ℤ) → (ℕ → ℤ) → (ℕ → ℤ) → ℕ → ℤ
+down_left n f u x i = u i -ℤ sum_past n i (λ k. part (f k i) (x k))
+
+pub record IsDown (n : ℕ) (f : ℕ → ℕ → ℤ) (u x : ℕ → ℤ) : Type 0 where
+  pub rows : (i : ℕ) → i < n → x i ≡ ratio (down_left n f u x i) (f i i)
+  pub left_fits : (i : ℕ) → i < n → unsigned_abs (down_left n f u x i) ≤ 2 ^ 66
+  pub fits : (i : ℕ) → i < n → unsigned_abs (x i) ≤ 2 ^ 60
+
+-- x is column c at the scale g, and all of it is in bounds
+pub record IsInverseColumn (n : ℕ) (f : ℕ → ℕ → ℤ) (g c : ℕ) (x : ℕ → ℤ) : Type 0 where
+  pub u : ℕ → ℤ
+  pub up : IsUp n f g c u
+  pub down : IsDown n f u x
+
+-- the columns before column c stay in their bounds at the scale g
+abbrev pub StayInBounds : ℕ → (ℕ → ℕ → ℤ) → ℕ → ℕ → Type 0
+StayInBounds n f g c = (k : ℕ) → k < c → (x : ℕ → ℤ) × IsInverseColumn n f g k x

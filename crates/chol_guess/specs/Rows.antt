@@ -1,0 +1,91 @@
+-- Columns as far as they are made, and the lists that they are read from and written to.
+use Rattle.std.specs.Prelude.{◌≡◌, ◌≢◌, ◌≤◌, ◌<◌, ◌*◌, ◌^◌, ℕ, suc, ℤ, List, length, unsigned_abs}
+use Rattle.chol_factor.specs.Factor.{ratio}
+use Rattle.chol_factor.specs.Squares.{at, grid, AllAtMost}
+use Rattle.chol_guess.specs.Columns.{down_left, IsUp, IsInverseColumn, StayInBounds}
+use Rattle.chol_guess.specs.Pilots.{nearest, IsScale}
+
+-- t is the transpose of f with n rows, row by row
+pub record IsTransposed (n : ℕ) (f : ℕ → ℕ → ℤ) (t : List ℤ) : Type 0 where
+  pub few : n ≤ 1000
+  pub square : length t ≡ n * n
+  pub words : (i k : ℕ) → i < n → k < n → grid n t i k ≡ f k i
+  pub small : AllAtMost (2 ^ 61) t
+
+-- what is left of a row and its quotient are in bounds
+pub record QuotientFits (left diagonal : ℤ) (limit : ℕ) : Type 0 where
+  pub left_fits : unsigned_abs left ≤ 2 ^ 66
+  pub fits : unsigned_abs (ratio left diagonal) ≤ limit
+
+-- going down, as far as the rows from row m on
+pub record IsDownFrom (n m : ℕ) (f : ℕ → ℕ → ℤ) (u x : ℕ → ℤ) : Type 0 where
+  pub rows : (i : ℕ) → m ≤ i → i < n → x i ≡ ratio (down_left n f u x i) (f i i)
+  pub left_fits : (i : ℕ) → m ≤ i → i < n → unsigned_abs (down_left n f u x i) ≤ 2 ^ 66
+  pub fits : (i : ℕ) → m ≤ i → i < n → unsigned_abs (x i) ≤ 2 ^ 60
+
+-- the numbers before row i of column c at the scale g stand in us, going up
+pub record IsUpBefore (n i : ℕ) (f : ℕ → ℕ → ℤ) (g c : ℕ) (us : List ℤ) : Type 0 where
+  pub few : n ≤ 1000
+  pub scale : g ≤ 50
+  pub row : i < n
+  pub column : c ≤ i
+  pub len : length us ≡ n
+  pub before : IsUp i f g c (at us)
+
+-- going down starts from us, whose table has the transpose t
+pub record IsDownStart (n : ℕ) (f : ℕ → ℕ → ℤ) (t us : List ℤ) : Type 0 where
+  pub transposed : IsTransposed n f t
+  pub len : length us ≡ n
+  pub small : AllAtMost (2 ^ 64) us
+
+-- the numbers past row i stand in xs, going down from us
+pub record IsDownAfter (n i : ℕ) (f : ℕ → ℕ → ℤ) (us xs : List ℤ) : Type 0 where
+  pub row : i < n
+  pub len : length xs ≡ n
+  pub after : IsDownFrom n (suc i) f (at us) (at xs)
+
+-- column c is xs, and the others are as before
+pub record IsColumnWritten (n c : ℕ) (xs old new : List ℤ) : Type 0 where
+  pub here : (i : ℕ) → i < n → grid n new i c ≡ at xs i
+  pub others : (i k : ℕ) → i < n → k < n → k ≢ c → grid n new i k ≡ grid n old i k
+  pub small : (a : ℕ) → AllAtMost a xs → AllAtMost a old → AllAtMost a new
+
+-- there is room for a column of n rows, going up and down, and for the words of n columns
+pub record IsRoom (n : ℕ) (us xs words : List ℤ) : Type 0 where
+  pub up : length us ≡ n
+  pub down : length xs ≡ n
+  pub square : length words ≡ n * n
+  pub small : AllAtMost (2 ^ 50) words
+
+-- the words of the columns but c are as before
+abbrev pub KeepsColumns : ℕ → ℕ → List ℤ → List ℤ → Type 0
+KeepsColumns n c old new = (i k : ℕ) → i < n → k < n → k ≢ c → grid n new i k ≡ grid n old i k
+
+-- column k of the words is that of the inverse at the scale g, to nearest
+abbrev pub HasColumn : ℕ → (ℕ → ℕ → ℤ) → ℕ → List ℤ → ℕ → Type 0
+HasColumn n f g words k = (x : ℕ → ℤ) × (IsInverseColumn n f g k x × ((i : ℕ) → i < n → grid n words i k ≡ nearest (x i)))
+
+-- so are the columns before column c
+abbrev pub PlacesColumns : ℕ → (ℕ → ℕ → ℤ) → ℕ → List ℤ → ℕ → Type 0
+PlacesColumns n f g words c = (k : ℕ) → k < c → HasColumn n f g words k
+
+-- column c is the first that fails at the scale g
+pub record IsFirstFailing (n : ℕ) (f : ℕ → ℕ → ℤ) (g c : ℕ) : Type 0 where
+  pub within : c < n
+  pub before : StayInBounds n f g c
+  pub here : ¬ (StayInBounds n f g (suc c))
+
+-- at no greater scale than g do all columns stay in bounds
+abbrev pub FailAbove : ℕ → (ℕ → ℕ → ℤ) → ℕ → Type 0
+FailAbove n f g = (h : ℕ) → IsScale h → g < h → ¬ (StayInBounds n f h n)
+
+-- g is the greatest scale at which all columns stay in bounds, and the words are those of these
+pub record IsGreatestScale (n : ℕ) (f : ℕ → ℕ → ℤ) (g : ℕ) (words : List ℤ) : Type 0 where
+  pub scale : IsScale g
+  pub columns : PlacesColumns n f g words n
+  pub greatest : FailAbove n f g
+
+-- column c is the first that fails at the scale 0, and some fail at each greater one
+pub record IsFailure (n : ℕ) (f : ℕ → ℕ → ℤ) (c : ℕ) : Type 0 where
+  pub first : IsFirstFailing n f 0 c
+  pub greater : FailAbove n f 0

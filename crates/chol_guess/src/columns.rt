@@ -1,0 +1,136 @@
+//! One column of the approximate inverse at a scale.
+
+ghost use Rattle.std.specs.Prelude.{◌≡◌, ◌≤◌, ◌<◌, ◌^◌, ℕ, ℤ, pos, ◌≤ℤ◌, length, SomeIff};
+ghost use Rattle.std.specs.Bool.{OnTrue, OnFalse};
+ghost use Rattle.chol_factor.specs.Factor.{factor_word, ratio};
+ghost use Rattle.chol_factor.specs.Squares.{at};
+ghost use Rattle.chol_guess.specs.Columns.{up_left, down_left, IsUp, IsDown, IsInverseColumn};
+ghost use Rattle.chol_guess.specs.Rows.{IsTransposed, QuotientFits, IsUpBefore, IsDownStart, IsDownAfter};
+
+use crate::kernels::{ratio, wide_parts};
+use chol_factor::{Factor, parts};
+
+/// The greatest size of what is left of a row.
+const LEFT_LIMIT: u128 = 1 << 66;
+
+/// The greatest size of a number going up.
+const UP_LIMIT: u128 = 1 << 64;
+
+/// The greatest size of a number going down.
+const DOWN_LIMIT: u128 = 1 << 60;
+
+/// The quotient, and None exactly where it passes the limit or what is left of the row passes its own.
+fn quotient(left: i128, diagonal: i64, limit: u128) -> Option<i128>
+    requires { pos 1 ≤ℤ diagonal }
+    ensures { SomeIff result (QuotientFits left diagonal limit) (ratio left diagonal) }
+{
+    if left.unsigned_abs() > LEFT_LIMIT {
+        return None;
+    }
+    let next = ratio(left, diagonal);
+    if next.unsigned_abs() <= limit {
+        Some(next)
+    } else {
+        None
+    }
+}
+
+/// What the earlier rows leave of row `i` of column `c`, going up. The numbers before row `c` are 0, and are skipped.
+fn up_left(f: &Factor, g: u32, c: usize, u: &[i128], i: usize) -> i128
+    requires { IsUpBefore f.now.size i (factor_word f.now) g c u.now }
+    ensures { result ≡ up_left (factor_word f.now) g c (at u.now) i }
+{
+    let earlier = wide_parts(&f.row(i)[c..i], &u[c..i]);
+    if i == c {
+        (1 << (g + 10)) - earlier
+    } else {
+        -earlier
+    }
+}
+
+/// The number of row `i`, and None exactly where it passes its bounds.
+fn next_up(f: &Factor, g: u32, c: usize, u: &[i128], i: usize) -> Option<i128>
+    requires { IsUpBefore f.now.size i (factor_word f.now) g c u.now }
+    ensures { SomeIff result (QuotientFits (up_left (factor_word f.now) g c (at u.now) i) (factor_word f.now i i) (2 ^ 64)) (ratio (up_left (factor_word f.now) g c (at u.now) i) (factor_word f.now i i)) }
+{
+    quotient(up_left(f, g, c, u, i), f.diagonal(i), UP_LIMIT)
+}
+
+/// Makes the first `c` numbers 0.
+fn clear(u: &mut [i128], c: usize)
+    requires { c ≤ length u.old }
+    ensures { (k : ℕ) → k < c → at u.new k ≡ pos 0 }
+{
+    for k in 0..c {
+        u[k] = 0;
+    }
+}
+
+/// Goes up column `c` at the scale `g`, and answers whether all of it stays in bounds.
+fn go_up(f: &Factor, g: u32, c: usize, u: &mut [i128]) -> bool
+    requires scale { g ≤ 50 }
+    requires column { c < f.now.size }
+    requires len { length u.old ≡ f.now.size }
+    ensures up { OnTrue result (IsUp f.now.size (factor_word f.now) g c (at u.new)) }
+    ensures none { OnFalse result ((v : ℕ → ℤ) → ¬ (IsUp f.now.size (factor_word f.now) g c v)) }
+{
+    clear(u, c);
+    for i in c..f.size() {
+        match next_up(f, g, c, u, i) {
+            Some(next) => u[i] = next,
+            None => return false,
+        }
+    }
+    true
+}
+
+/// What the later rows leave of row `i` of a column, going down.
+fn down_left(f: &Factor, t: &[i64], u: &[i128], x: &[i64], i: usize) -> i128
+    requires start { IsDownStart f.now.size (factor_word f.now) t.now u.now }
+    requires after { IsDownAfter f.now.size i (factor_word f.now) u.now x.now }
+    ensures { result ≡ down_left f.now.size (factor_word f.now) (at u.now) (at x.now) i }
+{
+    let n = f.size();
+    u[i] - parts(&t[i * n + i + 1..i * n + n], &x[i + 1..n])
+}
+
+/// The number of row `i`, and None exactly where it passes its bounds.
+fn next_down(f: &Factor, t: &[i64], u: &[i128], x: &[i64], i: usize) -> Option<i64>
+    requires start { IsDownStart f.now.size (factor_word f.now) t.now u.now }
+    requires after { IsDownAfter f.now.size i (factor_word f.now) u.now x.now }
+    ensures { SomeIff result (QuotientFits (down_left f.now.size (factor_word f.now) (at u.now) (at x.now) i) (factor_word f.now i i) (2 ^ 60)) (ratio (down_left f.now.size (factor_word f.now) (at u.now) (at x.now) i) (factor_word f.now i i)) }
+{
+    match quotient(down_left(f, t, u, x, i), f.diagonal(i), DOWN_LIMIT) {
+        Some(next) => Some(next as i64),
+        None => None,
+    }
+}
+
+/// Goes down from `u`, and answers whether all of it stays in bounds.
+fn go_down(f: &Factor, t: &[i64], u: &[i128], x: &mut [i64]) -> bool
+    requires start { IsDownStart f.now.size (factor_word f.now) t.now u.now }
+    requires len { length x.old ≡ f.now.size }
+    ensures down { OnTrue result (IsDown f.now.size (factor_word f.now) (at u.now) (at x.new)) }
+    ensures none { OnFalse result ((y : ℕ → ℤ) → ¬ (IsDown f.now.size (factor_word f.now) (at u.now) y)) }
+{
+    for i in (0..f.size()).rev() {
+        match next_down(f, t, u, x, i) {
+            Some(next) => x[i] = next,
+            None => return false,
+        }
+    }
+    true
+}
+
+/// Makes column `c` at the scale `g`, and answers whether all of it stays in bounds.
+pub fn column(f: &Factor, t: &[i64], g: u32, c: usize, u: &mut [i128], x: &mut [i64]) -> bool
+    requires transposed { IsTransposed f.now.size (factor_word f.now) t.now }
+    requires scale { g ≤ 50 }
+    requires within { c < f.now.size }
+    requires u_len { length u.old ≡ f.now.size }
+    requires x_len { length x.old ≡ f.now.size }
+    ensures column { OnTrue result (IsInverseColumn f.now.size (factor_word f.now) g c (at x.new)) }
+    ensures none { OnFalse result ((y : ℕ → ℤ) → ¬ (IsInverseColumn f.now.size (factor_word f.now) g c y)) }
+{
+    go_up(f, g, c, u) && go_down(f, t, u, x)
+}

@@ -1,0 +1,46 @@
+//! The sums and quotients that the columns are made of.
+
+ghost use Rattle.std.specs.Prelude.{◌≡◌, ◌≤◌, ◌*◌, ◌^◌, ℤ, pos, ◌≤ℤ◌, length, unsigned_abs};
+ghost use Rattle.whole_numbers.specs.Sum.{sum_to};
+ghost use Rattle.chol_factor.specs.Factor.{part, ratio};
+ghost use Rattle.chol_factor.specs.Squares.{at, AllAtMost};
+
+use whole_numbers::{floor_div, product};
+
+/// The unit of the factor and of the columns.
+const ONE: i128 = 1 << 60;
+
+/// The product of two numbers over 2^60, rounded down.
+fn wide_part(a: i64, u: i128) -> i128
+    requires left { unsigned_abs a ≤ 2 ^ 61 }
+    requires right { unsigned_abs u ≤ 2 ^ 64 }
+    ensures value { result ≡ part a u }
+    ensures bound { unsigned_abs result ≤ 2 ^ 65 }
+{
+    (i128::from(a) * u) >> 60
+}
+
+/// The sum of the products of two rows, each over 2^60 and rounded down.
+pub fn wide_parts(a: &[i64], u: &[i128]) -> i128
+    requires lengths { length a.now ≡ length u.now }
+    requires few { length a.now ≤ 1000 }
+    requires left { AllAtMost (2 ^ 61) a.now }
+    requires right { AllAtMost (2 ^ 64) u.now }
+    ensures value { result ≡ sum_to (length a.now) (λ k. part (at a.now k) (at u.now k)) }
+    ensures bound { unsigned_abs result ≤ 1000 * 2 ^ 65 }
+{
+    let mut sum: i128 = 0;
+    for k in 0..a.len() {
+        sum += wide_part(a[k], u[k]);
+    }
+    sum
+}
+
+/// The quotient of a number by one above 0, times 2^60 and rounded down.
+pub fn ratio(a: i128, b: i64) -> i128
+    requires left { unsigned_abs a ≤ 2 ^ 66 }
+    requires right { pos 1 ≤ℤ b }
+    ensures { result ≡ ratio a b }
+{
+    floor_div(product(a, ONE), i128::from(b))
+}

@@ -1,0 +1,43 @@
+//! The pilot of a working table: an approximate inverse on whole numbers, by a Cholesky factor and two divisions of each
+//! unit column. What it is good for is decided by the certificate, so nothing is claimed of how near it comes.
+#![tactic(auto)]
+
+ghost use Rattle.std.specs.Prelude.{◌≡◌};
+ghost use Rattle.chol_guess.specs.declared.PilotError.TheVariants.{Memory};
+
+use std::alloc::AllocError;
+use thiserror::Error;
+
+mod columns;
+mod grids;
+mod kernels;
+mod making;
+mod pilots;
+mod scales;
+#[cfg(test)]
+mod tests;
+
+pub use making::{pilot, pilot_of};
+pub use pilots::Pilot;
+
+/// Why a table has no pilot.
+#[derive(Clone, Copy, Debug, PartialEq, Eq, Error)]
+pub enum PilotError {
+    /// The factor has no column here: what is left at its diagonal is not above 0, or a number of it passes its bound.
+    #[error("no pivot in row {row}")]
+    Pivot { row: usize },
+    /// This column of the inverse is the first that passes its bounds at the least scale, and none fits at a greater one.
+    #[error("column {col} passes its bounds at each scale")]
+    Condition { col: usize },
+    /// Memory is wanting.
+    #[error("out of memory")]
+    Memory,
+}
+
+impl From<AllocError> for PilotError {
+    ghost from_gives = { λ _ r. r ≡ Memory };
+
+    fn from(_e: AllocError) -> PilotError {
+        PilotError::Memory
+    }
+}
