@@ -1,4 +1,5 @@
 pub mod Alone
+pub mod AlonePilots
 pub mod Makings
 pub mod Placed
 pub mod Ranges

@@ -1,0 +1,15 @@
+pub mod AlonePrinted
+pub mod DifferenceLaws
+pub mod EndLaws
+pub mod Law
+pub mod LawBetween
+pub mod LawDifferences
+pub mod LawResidual
+pub mod LawSystems
+pub mod LawWords
+pub mod PrintingLaws
+pub mod ResidualLaws
+pub mod RoundingLaws
+pub mod RowLaws
+pub mod TermLaws
+pub mod WordSizes

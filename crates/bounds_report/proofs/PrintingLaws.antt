@@ -1,0 +1,43 @@
+-- The printed numbers, from the ends and the differences.
+use Rattle.std.proofs.Common.{◌≡◌, ℕ, ℤ, pos, ◌<◌, List, length, ap, ◌∙◌}
+use Rattle.std.proofs.Math.IntN.{◌-ℤ◌}
+use Rattle.whole_numbers.specs.Words.{Word, size, word_sub, word_mul, sum_words}
+use Rattle.whole_numbers.proofs.Sums.{sum_to_same}
+use Rattle.sys_model.specs.Systems.{Table}
+use Rattle.bounds_report.specs.Differences.{difference_of, word_at, AreDifferencesOf}
+use Rattle.bounds_report.specs.Ends.{AreEnds, ends_of}
+use Rattle.bounds_report.specs.Printing.{numbers_of, numbers_at}
+use Rattle.bounds_report.specs.Residuals.{row_sum, residual_size, numbers_from, AreRowsPrinted}
+use Rattle.bounds_report.specs.Rows.{RowLists, exponent_at, apriori_at, vector_at, radius_at}
+use Rattle.bounds_report.specs.declared.ends.Ends.{Ends}
+use Rattle.bounds_report.specs.declared.numbers.Printed.{Printed}
+
+sum_words_same : (n : ℕ) (f g : ℕ → Word) → ((k : ℕ) → k < n → f k ≡ g k) → sum_words n f ≡ sum_words n g
+sum_words_same n f g h =
+    let lo = sum_to_same n (λ k. (f k).lo) (λ k. (g k).lo) (λ k l. ap (λ w. w.lo) (h k l)) in
+    let hi = sum_to_same n (λ k. (f k).hi) (λ k. (g k).hi) (λ k l. ap (λ w. w.hi) (h k l)) in
+    cc
+
+-- a list with the differences of the rows makes of a row of a table what they make of it
+sum_is : (n : ℕ) (t : Table) (r : RowLists) (zs : List Word) (i : ℕ) → AreDifferencesOf n r zs → row_sum n t zs i ≡ sum_words n (λ j. word_mul (t.entry i j) (difference_of r j))
+sum_is n t r zs i done =
+    sum_words_same n (λ j. word_mul (t.entry i j) (word_at zs j)) (λ j. word_mul (t.entry i j) (difference_of r j)) (λ j l. ap (λ z. word_mul (t.entry i j) z) (done.rows j l))
+
+abbrev with_residual : Ends → ℕ → ℤ → Printed
+with_residual e residual place = record { estimate = e.estimate; lower = e.lower; upper = e.upper; residual = residual; place = place }
+
+numbers_are : (n : ℕ) (t : Table) (r : RowLists) (es : List Ends) (zs : List Word) (i : ℕ) → i < n → AreEnds n r es → AreDifferencesOf n r zs
+    → numbers_from n t (exponent_at r) es zs i ≡ numbers_of n t (exponent_at r) (apriori_at r) (vector_at r) (radius_at r) i
+numbers_are n t r es zs i h ends done =
+    let place = exponent_at r i -ℤ pos 30 in
+    ap (λ e. with_residual e (residual_size n t zs i) place) (ends.rows i h)
+    ∙ ap (λ s. with_residual (ends_of r i) (size (word_sub (t.right i) s)) place) (sum_is n t r zs i done)
+
+pub all_printed : (n : ℕ) (t : Table) (r : RowLists) (es : List Ends) (zs : List Word) (ps : List Printed) → AreEnds n r es → AreDifferencesOf n r zs → length ps ≡ n
+    → ((i : ℕ) → i < n → numbers_at ps i ≡ numbers_from n t (exponent_at r) es zs i) → AreRowsPrinted n t r ps
+all_printed n t r es zs ps ends done len rows = record {
+  printable = ends.printable;
+  differences = done.fit;
+  len = len;
+  rows = λ i h. rows i h ∙ numbers_are n t r es zs i h ends done;
+}

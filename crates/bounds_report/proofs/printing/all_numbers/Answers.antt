@@ -1,0 +1,15 @@
+use Rattle.std.proofs.Common.{arith, ◌≡◌, length}
+use Rattle.equil.specs.Tables.{table_of, exponent_of}
+use Rattle.equil.proofs.RowLaws.{each_push}
+use Rattle.bounds_report.specs.Residuals.{numbers_from}
+use Rattle.bounds_report.proofs.printing.all_numbers.Goals as goal
+
+pub loop-i-preserved : goal.loop-i-preserved
+loop-i-preserved g c =
+    let w = c.args.w.now in
+    let items = c.in_ok-push.ensures.items in
+    let before : length c.loop-i.all.items ≡ c.loop-i.i = omega (arith, c.loop-i.invariant.len, c.loop-i.all.ok.0) in
+    record {
+      len = omega (arith, c.in_ok-push.ensures.len, c.loop-i.invariant.len);
+      rows = rw items (each_push (λ k p. p ≡ numbers_from w.a.size (table_of w.a w.d.items) (exponent_of w.e.items) c.args.ends.now c.args.zs.now k) c.loop-i.all.items c.loop-i.i c.numbers.result _ before c.loop-i.invariant.rows c.numbers.ensures);
+    }

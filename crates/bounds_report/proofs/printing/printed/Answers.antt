@@ -1,0 +1,21 @@
+use Rattle.std.proofs.Common.{arith}
+use Rattle.bounds_report.proofs.RowLaws.{are_rows}
+use Rattle.bounds_report.proofs.printing.printed.Goals as goal
+
+pub new-requires : goal.new-requires
+new-requires g c =
+    let w = c.args.w.now in
+    let e = c.args.e.now in
+    let q = c.requires in
+    let rows = are_rows w.a.size w.e.items c.args.apriori.now e.y.items e.radius.w.items (omega (arith, w.powers, w.e.ok.0)) q.len (omega (arith, q.vector, e.y.ok.0)) q.radii w.in_range q.modest q.small q.bounded in
+    rw (c.deref.ensures.value, c.deref-2.ensures.value, c.deref-3.ensures.value) rows
+
+pub returns-clause-printed : goal.returns-clause-printed
+returns-clause-printed g c =
+    let rows = rw (c.deref.ensures.value, c.deref-2.ensures.value, c.deref-3.ensures.value) at c.new.ensures in
+    rw rows at c.rows_printed.ensures.printed
+
+pub returns-clause-refused : goal.returns-clause-refused
+returns-clause-refused g c =
+    let rows = rw (c.deref.ensures.value, c.deref-2.ensures.value, c.deref-3.ensures.value) at c.new.ensures in
+    rw rows at c.rows_printed.ensures.refused

@@ -1,0 +1,24 @@
+use Rattle.std.proofs.Common.{ℕ, ℤ, pos, negsuc, ◌*ℤ◌, ◌≤◌, ◌*◌, ◌^◌, to_z, of_z, unsigned_abs, Option, Some, None, MatchOption, IfSome, arith, ap}
+use Rattle.std.specs.Int.{w128}
+use Rattle.std.proofs.Math.Nat.{mul-le-mul_right}
+use Rattle.std.proofs.lemmas.Int.{ints, unsigned_abs-mul}
+use Rattle.decimal_e.specs.Decimals.{Decimal, IsCanonicalOf, IsBounded, ten_above, ten_below}
+use Rattle.decimal_e.specs.Fractions.{IsAtMost}
+use Rattle.bounds_report.proofs.tests.apriori.Goals as goal
+
+at_most : (m : ℤ) (d : Decimal) → unsigned_abs m ≤ 10 ^ 16 → IsCanonicalOf d (record { mant = m; exp = negsuc 3 }) → IsAtMost (10 ^ 12) d
+at_most m d h is =
+    let same = ap unsigned_abs is.same.same in
+    let above = unsigned_abs-mul d.mant (pos (ten_above d.exp * 10 ^ 4)) in
+    let below = unsigned_abs-mul m (pos (1 * ten_below d.exp)) in
+    let whole = unsigned_abs-mul d.mant (pos (ten_above d.exp)) in
+    omega (arith, same, above, below, whole, mul-le-mul_right (ten_below d.exp) h)
+
+some_at_most : (m : ℤ) (r : Option Decimal) (P : Type 0) → unsigned_abs m ≤ 10 ^ 16
+    → MatchOption r P (λ d. IsCanonicalOf d (record { mant = m; exp = negsuc 3 }) × IsBounded d) → IfSome r (IsAtMost (10 ^ 12))
+some_at_most m None P h is = tt
+some_at_most m (Some d) P h is = at_most m d h is.0
+
+pub returns-then-unsigned_abs-le10000000000000000 : goal.returns-then-unsigned_abs-le10000000000000000
+returns-then-unsigned_abs-le10000000000000000 c =
+    some_at_most (to_z w128 (of_z w128 c.from.result)) c.new.result _ (omega (arith, ints)) c.new.ensures

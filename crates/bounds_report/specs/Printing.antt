@@ -1,0 +1,81 @@
+-- The numbers that are printed of each row: bounds and estimate in units of 10^-16, and the residual of the estimates.
+--
+-- t is the working table with the exponents e, x0 the a priori values, y the start vector and w the radii; one unit of y in
+-- row i is 10^-(12 + e_i). The scales and bounds are this program's own.
+use Rattle.std.specs.Prelude.{◌≡◌, ◌≤◌, ◌<◌, ◌^◌, ℕ, ℤ, pos, ◌+ℤ◌, ◌-ℤ◌, ◌*ℤ◌, nat_le, if◌then◌else◌, unsigned_abs, List, length, slice_index_or}
+use Rattle.whole_numbers.specs.Sum.{total_to}
+use Rattle.whole_numbers.specs.Words.{Word, size, point_word, word_sub, word_mul, sum_words}
+use Rattle.whole_numbers.specs.Scaling.{floor_scaled, ceil_scaled, word_scale10}
+use Rattle.decimal_e.specs.Decimals.{Decimal}
+use Rattle.decimal_e.specs.Scales.{decimal_word}
+use Rattle.sys_model.specs.Systems.{Table}
+use Rattle.bounds_report.specs.Digits.{to_15_digits}
+use Rattle.bounds_report.specs.declared.numbers.Printed.{Printed}
+
+-- the decimals of a list
+abbrev pub decimal_at : List Decimal → ℕ → Decimal
+decimal_at ds i = slice_index_or ds i (record { mant = pos 0; exp = pos 0 })
+
+-- what the radius and the start vector add to the ends of the a priori value
+abbrev pub low_term : ℤ → ℤ → ℕ → ℤ
+low_term e y w = floor_scaled (y -ℤ pos w) (pos 4 -ℤ e)
+
+abbrev pub high_term : ℤ → ℤ → ℕ → ℤ
+high_term e y w = ceil_scaled (y +ℤ pos w) (pos 4 -ℤ e)
+
+-- the printed bounds and the printed estimate of one row
+abbrev pub lower_of : Decimal → ℤ → ℤ → ℕ → ℤ
+lower_of x0 e y w = (decimal_word x0 (pos 16)).lo +ℤ low_term e y w
+
+abbrev pub upper_of : Decimal → ℤ → ℤ → ℕ → ℤ
+upper_of x0 e y w = (decimal_word x0 (pos 16)).hi +ℤ high_term e y w
+
+abbrev pub estimate_of : Decimal → ℤ → ℤ → ℤ
+estimate_of x0 e y = to_15_digits ((decimal_word x0 (pos 16)).lo +ℤ floor_scaled y (pos 4 -ℤ e))
+
+-- they and their terms are small enough to be printed
+pub record IsPrintable (x0 : Decimal) (e y : ℤ) (w : ℕ) : Type 0 where
+  pub low : unsigned_abs (low_term e y w) ≤ 10 ^ 37
+  pub high : unsigned_abs (high_term e y w) ≤ 10 ^ 37
+  pub lower : unsigned_abs (lower_of x0 e y w) ≤ 10 ^ 37
+  pub upper : unsigned_abs (upper_of x0 e y w) ≤ 10 ^ 37
+  pub estimate : unsigned_abs (estimate_of x0 e y) ≤ 10 ^ 33
+
+-- the word of the estimate minus x0 at 10^20: zero where the estimate is x0
+abbrev pub difference : Decimal → ℤ → Word
+difference x0 estimate =
+    if nat_le (size (word_sub (decimal_word x0 (pos 16)) (point_word estimate))) 0 then point_word (pos 0)
+    else word_sub (point_word (estimate *ℤ pos (10 ^ 4))) (decimal_word x0 (pos 20))
+
+-- that word in units of the working table
+abbrev pub working_difference : Decimal → ℤ → ℤ → Word
+working_difference x0 e y = word_scale10 (difference x0 (estimate_of x0 e y)) (e -ℤ pos 8)
+
+-- the sizes of the first k working differences add up to at most 2^65
+abbrev pub DifferencesFit : ℕ → (ℕ → ℤ) → (ℕ → Decimal) → (ℕ → ℤ) → Type 0
+DifferencesFit k e x0 y = total_to k (λ j. size (working_difference (x0 j) (e j) (y j))) ≤ 2 ^ 65
+
+-- what the estimates leave of the right side in row i
+abbrev pub residual_word : ℕ → Table → (ℕ → ℤ) → (ℕ → Decimal) → (ℕ → ℤ) → ℕ → Word
+residual_word n t e x0 y i = word_sub (t.right i) (sum_words n (λ j. word_mul (t.entry i j) (working_difference (x0 j) (e j) (y j))))
+
+-- the numbers of row i, with the residual in units of 10^(e_i - 30)
+abbrev pub numbers_of : ℕ → Table → (ℕ → ℤ) → (ℕ → Decimal) → (ℕ → ℤ) → (ℕ → ℕ) → ℕ → Printed
+numbers_of n t e x0 y w i = record {
+  estimate = estimate_of (x0 i) (e i) (y i);
+  lower = lower_of (x0 i) (e i) (y i) (w i);
+  upper = upper_of (x0 i) (e i) (y i) (w i);
+  residual = size (residual_word n t e x0 y i);
+  place = e i -ℤ pos 30;
+}
+
+-- the numbers of a list
+abbrev pub numbers_at : List Printed → ℕ → Printed
+numbers_at ps i = slice_index_or ps i (record { estimate = pos 0; lower = pos 0; upper = pos 0; residual = 0; place = pos 0 })
+
+-- the list has the numbers of all n rows, and all of them can be printed
+pub record ArePrinted (n : ℕ) (t : Table) (e : ℕ → ℤ) (x0 : ℕ → Decimal) (y : ℕ → ℤ) (w : ℕ → ℕ) (ps : List Printed) : Type 0 where
+  pub printable : (i : ℕ) → i < n → IsPrintable (x0 i) (e i) (y i) (w i)
+  pub differences : DifferencesFit n e x0 y
+  pub len : length ps ≡ n
+  pub rows : (i : ℕ) → i < n → numbers_at ps i ≡ numbers_of n t e x0 y w i

@@ -1,0 +1,40 @@
+-- What the numbers of the rows are made from, apart from the table.
+use Rattle.std.specs.Prelude.{◌≡◌, ◌≤◌, ◌<◌, ◌^◌, ℕ, ℤ, unsigned_abs, List, length, slice_index_or}
+use Rattle.decimal_e.specs.Decimals.{Decimal}
+use Rattle.decimal_e.specs.Fractions.{IsAtMost}
+use Rattle.equil.specs.Exponents.{IsInRange}
+use Rattle.equil.specs.Tables.{exponent_of}
+use Rattle.chol_factor.specs.Squares.{at}
+use Rattle.bounds_report.specs.Printing.{decimal_at}
+
+-- the exponents, the a priori values, the start vector and the radii, row by row
+pub record RowLists : Type 0 where
+  pub exponents : List ℤ
+  pub apriori : List Decimal
+  pub vector : List ℤ
+  pub radii : List ℕ
+
+abbrev pub row_count : RowLists → ℕ
+row_count r = length r.apriori
+
+abbrev pub exponent_at : RowLists → ℕ → ℤ
+exponent_at r i = exponent_of r.exponents i
+
+abbrev pub apriori_at : RowLists → ℕ → Decimal
+apriori_at r i = decimal_at r.apriori i
+
+abbrev pub vector_at : RowLists → ℕ → ℤ
+vector_at r i = at r.vector i
+
+abbrev pub radius_at : RowLists → ℕ → ℕ
+radius_at r i = slice_index_or r.radii i 0
+
+-- the lists have one length, and their numbers are within these bounds
+pub record AreRows (r : RowLists) : Type 0 where
+  pub exponents : length r.exponents ≡ row_count r
+  pub vector : length r.vector ≡ row_count r
+  pub radii : length r.radii ≡ row_count r
+  pub exponent : (i : ℕ) → i < row_count r → IsInRange (exponent_at r i)
+  pub apriori : (i : ℕ) → i < row_count r → IsAtMost (10 ^ 12) (apriori_at r i)
+  pub start : (i : ℕ) → i < row_count r → unsigned_abs (vector_at r i) ≤ 2 ^ 64
+  pub radius : (i : ℕ) → i < row_count r → radius_at r i ≤ 2 ^ 97

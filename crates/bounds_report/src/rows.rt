@@ -1,0 +1,95 @@
+//! What the numbers of the rows are made from.
+
+ghost use Rattle.std.specs.Prelude.{◌≡◌, ◌≤◌, ◌<◌, ◌^◌, unsigned_abs};
+ghost use Rattle.decimal_e.specs.Fractions.{IsAtMost};
+ghost use Rattle.equil.specs.Exponents.{IsInRange};
+ghost use Rattle.bounds_report.specs.Rows.{AreRows, row_count, exponent_at, apriori_at, vector_at, radius_at};
+
+use decimal_e::Dec;
+use std::marker::Model;
+
+/// Row by row the exponents, the a priori values, the start vector and the radii.
+#[derive(Drop)]
+pub struct Rows<'a> {
+    exponents: &'a [i32],
+    apriori: &'a [Dec],
+    vector: &'a [i128],
+    radii: &'a [u128],
+}
+
+impl<'a> Model for Rows<'a> {
+    ghost use Rattle.bounds_report.specs.Rows.{RowLists, AreRows};
+
+    ghost Value = { RowLists };
+
+    ghost view = { λ r. record { exponents = r.exponents.now; apriori = r.apriori.now; vector = r.vector.now; radii = r.radii.now } };
+
+    ghost invariant = { λ r. AreRows (record { exponents = r.exponents.now; apriori = r.apriori.now; vector = r.vector.now; radii = r.radii.now }) };
+}
+
+impl<'a> Rows<'a> {
+    /// The rows of four lists.
+    pub fn new(
+        exponents: &'a [i32],
+        apriori: &'a [Dec],
+        vector: &'a [i128],
+        radii: &'a [u128],
+    ) -> Rows<'a>
+        requires { AreRows (record { exponents = exponents.now; apriori = apriori.now; vector = vector.now; radii = radii.now }) }
+        ensures { result ≡ record { exponents = exponents.now; apriori = apriori.now; vector = vector.now; radii = radii.now } }
+    {
+        Rows {
+            exponents,
+            apriori,
+            vector,
+            radii,
+        }
+    }
+
+    /// How many rows there are.
+    pub fn count(&self) -> usize
+        ensures { result ≡ row_count self.now }
+    {
+        self.apriori.len()
+    }
+
+    /// The exponent of a row.
+    pub fn exponent(&self, i: usize) -> i32
+        requires { i < row_count self.now }
+        ensures value { result ≡ exponent_at self.now i }
+        ensures range { IsInRange result }
+    {
+        let exponents = self.exponents;
+        exponents[i]
+    }
+
+    /// The a priori value of a row.
+    pub fn apriori(&self, i: usize) -> Dec
+        requires { i < row_count self.now }
+        ensures value { result ≡ apriori_at self.now i }
+        ensures most { IsAtMost (10 ^ 12) result }
+    {
+        let apriori = self.apriori;
+        apriori[i]
+    }
+
+    /// The number of the start vector of a row.
+    pub fn vector(&self, i: usize) -> i128
+        requires { i < row_count self.now }
+        ensures value { result ≡ vector_at self.now i }
+        ensures bound { unsigned_abs result ≤ 2 ^ 64 }
+    {
+        let vector = self.vector;
+        vector[i]
+    }
+
+    /// The radius of a row.
+    pub fn radius(&self, i: usize) -> u128
+        requires { i < row_count self.now }
+        ensures value { result ≡ radius_at self.now i }
+        ensures bound { result ≤ 2 ^ 97 }
+    {
+        let radii = self.radii;
+        radii[i]
+    }
+}

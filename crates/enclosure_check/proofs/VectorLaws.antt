@@ -1,0 +1,192 @@
+-- How large the numbers of a turn are, and where turns lead.
+use Rattle.std.proofs.Common.{◌≡◌, ◌≤◌, ◌<◌, ◌+◌, ◌-◌, ◌*◌, ◌^◌, ◌∙◌, ℕ, suc, ℤ, pos, ◌+ℤ◌, ◌*ℤ◌, unsigned_abs, FitsSigned, List, length, replicate, add-one, refl, sym, ap, subst, arith}
+use Rattle.std.specs.Int.{w128}
+use Rattle.std.proofs.Math.Nat.{mul-le-mul_left}
+use Rattle.std.proofs.lemmas.Int.{ints, fits_signed_from_abs, unsigned_abs-mul}
+use Rattle.std.proofs.lemmas.List.{get_or-replicate, length-replicate}
+use Rattle.whole_numbers.specs.Quotients.{floor_over}
+use Rattle.whole_numbers.specs.Sum.{sum_to, total_to}
+use Rattle.whole_numbers.specs.Words.{Word, size}
+use Rattle.whole_numbers.proofs.Sizes.{floor_small}
+use Rattle.whole_numbers.proofs.Sums.{sum_to_same, abs-sum_to, abs-dot, total_to_le, total_to-*, total_to-bound, le-total_to}
+use Rattle.whole_numbers.proofs.WordLaws.{two_pow_above}
+use Rattle.sym_blocks.specs.Tables.{SymTable, word}
+use Rattle.sys_model.specs.Systems.{Table}
+use Rattle.chol_factor.specs.Factor.{middle}
+use Rattle.chol_factor.specs.Squares.{at}
+use Rattle.chol_guess.specs.Pilots.{PilotTable, pilot_word}
+use Rattle.enclosure_check.specs.Answers.{IsVectorRefused}
+use Rattle.enclosure_check.specs.Least.{IsLeast}
+use Rattle.enclosure_check.specs.ErrorParts.{IsVector}
+use Rattle.enclosure_check.specs.VectorParts.{taken_middle, part_number, change_at, moved_at, AreMiddlesLeft, AreFloors, IsRowByNumbers, AreShiftedNumbers, AreSmallNumbers, IsPassed, IsTurned, IsTurnRefused}
+use Rattle.enclosure_check.specs.declared.VectorError.{VectorError}
+use Rattle.enclosure_check.specs.declared.VectorError.TheVariants.{Range, Memory}
+use Rattle.enclosure_check.specs.Vectors.{IsSmall, IsTurn, AfterTurns, IsStartVector, AllFitAfter, middle_left, moved}
+use Rattle.enclosure_check.proofs.ErrorLaws.{AreSmallWords, product_le, total_part, least_same}
+
+-- the middle is no greater than the word
+pub middle_small : (w : Word) (m : ℕ) → size w ≤ m → unsigned_abs (middle w) ≤ m
+middle_small w m h = floor_small (w.lo +ℤ w.hi) 2 m (omega arith) (omega (arith, ints))
+
+-- a quotient is no greater than what is divided
+pub quotient_small : (z : ℤ) (m : ℕ) → 0 < m → unsigned_abs (floor_over z m) ≤ unsigned_abs z
+quotient_small z m h = let t = mul-le-mul_left (unsigned_abs z) h in floor_small z m (unsigned_abs z) h (omega (arith, t))
+
+-- ---- sums
+-- a sum with one more term fits, and is the longer sum
+pub sum_step : (k : ℕ) (f : ℕ → ℤ) (s p : ℤ) → s ≡ sum_to k f → p ≡ f k → unsigned_abs (sum_to (k + 1) f) ≤ 2 ^ 126 → FitsSigned w128 (s +ℤ p) × (s +ℤ p ≡ sum_to (k + 1) f)
+sum_step k f s p e d h =
+    let more : s +ℤ p ≡ sum_to (k + 1) f = rw (e, d, add-one) refl in
+    (fits_signed_from_abs w128 (s +ℤ p) (omega (arith, h, ap unsigned_abs more)), more)
+
+-- ---- what the vector takes of a row
+-- each product fits
+pub taken_small : (a : SymTable) (y : List ℤ) (i j : ℕ) → AreSmallWords a → IsVector a.size y → i < a.size → j < a.size → unsigned_abs (middle (word a i j)) * unsigned_abs (at y j) ≤ 2 ^ 126
+taken_small a y i j small v row column =
+    let t = le-total_to a.size (λ k. unsigned_abs (at y k)) j column in
+    omega (arith, product_le (unsigned_abs (middle (word a i j))) (2 ^ 61) (unsigned_abs (at y j)) (2 ^ 64) (middle_small (word a i j) (2 ^ 61) (small i j row column)) (omega (arith, v.small)))
+
+-- so does each part of their sum
+pub row_small : (a : SymTable) (y : List ℤ) (i m : ℕ) → AreSmallWords a → IsVector a.size y → i < a.size → m ≤ a.size → unsigned_abs (sum_to m (taken_middle a y i)) ≤ 2 ^ 125
+row_small a y i m small v row most =
+    let s = abs-sum_to m (taken_middle a y i) in
+    let b = total_to_le m (λ k. unsigned_abs (taken_middle a y i k)) (λ k. unsigned_abs (at y k) * 2 ^ 61)
+    (λ k d. let p = product_le (unsigned_abs (at y k)) (unsigned_abs (at y k)) (unsigned_abs (middle (word a i k))) (2 ^ 61) (omega arith) (middle_small (word a i k) (2 ^ 61) (small i k row (omega arith))) in omega (arith, unsigned_abs-mul (middle (word a i k)) (at y k), p)) in
+    let c = total_to-* m (λ k. unsigned_abs (at y k)) (2 ^ 61) in
+    let e = total_part a.size (λ k. unsigned_abs (at y k)) m most in
+    omega (arith, s, b, c, e, v.small)
+
+-- ---- what the pilot makes of the numbers
+-- each product fits
+pub part_small : (r vs : List ℤ) (k : ℕ) → IsRowByNumbers r vs → k < length vs → unsigned_abs (at r k) * unsigned_abs (at vs k) ≤ 2 ^ 126
+part_small r vs k s h =
+    omega (arith, product_le (unsigned_abs (at r k)) (2 ^ 50) (unsigned_abs (at vs k)) (2 ^ 66) (s.row_small k (omega (arith, s.len))) (s.numbers_small k h))
+
+-- so does each part of their sum
+pub parts_small : (r vs : List ℤ) (m : ℕ) → IsRowByNumbers r vs → m ≤ length vs → unsigned_abs (sum_to m (part_number r vs)) ≤ 2 ^ 126
+parts_small r vs m s most =
+    let t = abs-dot m (at r) (at vs) (2 ^ 50) (2 ^ 66) (λ k d. s.row_small k (omega (arith, s.len))) (λ k d. s.numbers_small k (omega arith)) in
+    omega (arith, t, s.few)
+
+-- ---- one number of the next vector
+pub number_small : (n : ℕ) (y : List ℤ) (i : ℕ) → IsVector n y → i < n → unsigned_abs (at y i) ≤ 2 ^ 64
+number_small n y i v row = let t = le-total_to n (λ k. unsigned_abs (at y k)) i row in omega (arith, v.small)
+
+-- what the pilot makes of the numbers, rounded down, is in bounds
+pub change_small : (b v : ℤ) (m : ℕ) → unsigned_abs b ≤ 2 ^ 126 → v ≡ floor_over b (2 ^ m) → unsigned_abs v ≤ 2 ^ 126
+change_small b v m h e = let q = quotient_small b (2 ^ m) (two_pow_above m) in omega (arith, ap unsigned_abs e, q)
+
+-- the floor of the row's sum is the change
+pub change_is : (p : PilotTable) (r vs : List ℤ) (h i g : ℕ) (b v : ℤ) → length vs ≡ p.size → ((k : ℕ) → k < p.size → at r k ≡ pilot_word p i k) → b ≡ sum_to (length vs) (part_number r vs) → g ≡ p.g → v ≡ floor_over b (2 ^ (g + 60 - h)) → v ≡ change_at p vs h i
+change_is p r vs h i g b v len row is scale floor =
+    let same = sum_to_same p.size (part_number r vs) (λ k. pilot_word p i k *ℤ at vs k) (λ k l. ap (λ x. x *ℤ at vs k) (row k l)) in
+    let sum = is ∙ ap (λ n. sum_to n (part_number r vs)) len ∙ same in
+    floor ∙ ap (λ x. floor_over x (2 ^ (g + 60 - h))) sum ∙ ap (λ s. floor_over (sum_to p.size (λ k. pilot_word p i k *ℤ at vs k)) (2 ^ (s + 60 - h))) scale
+
+-- ---- one turn
+-- totals of the same numbers are the same
+pub total_to_same : (n : ℕ) (f g : ℕ → ℕ) → ((k : ℕ) → k < n → f k ≡ g k) → total_to n f ≡ total_to n g
+total_to_same n f g h =
+    let up = total_to_le n f g (λ k l. omega (arith, h k l)) in
+    let down = total_to_le n g f (λ k l. omega (arith, h k l)) in
+    omega (arith, up, down)
+
+-- and as small
+small_same : (n : ℕ) (f g : ℕ → ℤ) → ((k : ℕ) → k < n → f k ≡ g k) → IsSmall n f → IsSmall n g
+small_same n f g h s = omega (arith, s, total_to_same n (λ k. unsigned_abs (f k)) (λ k. unsigned_abs (g k)) (λ k l. ap unsigned_abs (h k l)))
+
+-- what the rows of a turn are made of
+pub record IsMade (n : ℕ) (t : Table) (p : PilotTable) (y : List ℤ) (qs vs : List ℤ) (h : ℕ) : Type 0 where
+  pub size : p.size ≡ n
+  pub left : AreMiddlesLeft n t (at y) qs
+  pub least : IsLeast (AllFitAfter (length qs) (at qs)) h
+  pub floors : AreFloors h qs vs
+
+-- the pilot may be multiplied with the floors
+pub made_numbers : (n : ℕ) (t : Table) (p : PilotTable) (y qs vs : List ℤ) (h : ℕ) → n ≤ 1000 → IsMade n t p y qs vs h → AreShiftedNumbers p.size vs
+made_numbers n t p y qs vs h few m = record {
+  len = omega (arith, m.size, m.left.len, m.floors.len);
+  few = omega (arith, m.size);
+  small = λ k l. let inside : k < length qs = omega (arith, m.floors.len) in rw (m.floors.each k inside) (m.least.here k inside);
+}
+
+-- a number made of the lists is that of the turn
+moved_same : (n : ℕ) (t : Table) (p : PilotTable) (y qs vs : List ℤ) (h : ℕ) → IsMade n t p y qs vs h → (i : ℕ) → moved_at p y vs h i ≡ moved n p (middle_left n t (at y)) h (at y) i
+moved_same n t p y qs vs h m i =
+    let same = sum_to_same n (λ k. pilot_word p i k *ℤ at vs k) (λ k. pilot_word p i k *ℤ floor_over (middle_left n t (at y) k) (2 ^ h))
+    (λ k l. ap (λ x. pilot_word p i k *ℤ x) (m.floors.each k (omega (arith, m.left.len)) ∙ ap (λ x. floor_over x (2 ^ h)) (m.left.each k l))) in
+    ap (λ s. at y i +ℤ floor_over (sum_to s (λ k. pilot_word p i k *ℤ at vs k)) (2 ^ (p.g + 60 - h))) m.size ∙ ap (λ x. at y i +ℤ floor_over x (2 ^ (p.g + 60 - h))) same
+
+-- what fits of the list fits of the definition, and the other way round
+fits_left : (n : ℕ) (t : Table) (y : ℕ → ℤ) (qs : List ℤ) → AreMiddlesLeft n t y qs → (h : ℕ) → AllFitAfter (length qs) (at qs) h → AllFitAfter n (middle_left n t y) h
+fits_left n t y qs left h fits i row = subst (λ q. unsigned_abs (floor_over q (2 ^ h)) ≤ 2 ^ 66) (left.each i row) (fits i (omega (arith, left.len)))
+
+fits_back : (n : ℕ) (t : Table) (y : ℕ → ℤ) (qs : List ℤ) → AreMiddlesLeft n t y qs → (h : ℕ) → AllFitAfter n (middle_left n t y) h → AllFitAfter (length qs) (at qs) h
+fits_back n t y qs left h fits k inside = let row : k < n = omega (arith, left.len) in subst (λ q. unsigned_abs (floor_over q (2 ^ h)) ≤ 2 ^ 66) (sym (left.each k row)) (fits k row)
+
+-- numbers that are those that the pilot gives are one turn away
+made_turn : (n : ℕ) (t : Table) (p : PilotTable) (y qs vs : List ℤ) (h : ℕ) → IsMade n t p y qs vs h → (z : ℕ → ℤ) → ((i : ℕ) → i < n → z i ≡ moved_at p y vs h i) → IsTurn n t p (at y) z
+made_turn n t p y qs vs h m z is = record {
+  h = h;
+  shift = least_same (AllFitAfter (length qs) (at qs)) (AllFitAfter n (middle_left n t (at y))) h (fits_left n t (at y) qs m.left) (fits_back n t (at y) qs m.left) m.least;
+  rows = λ i row. is i row ∙ moved_same n t p y qs vs h m i;
+}
+
+-- their sizes are as small as those of the turn
+made_vector : (n : ℕ) (t : Table) (p : PilotTable) (y qs vs : List ℤ) (h : ℕ) → IsMade n t p y qs vs h → (zs : List ℤ) → AreSmallNumbers p.size (moved_at p y vs h) zs → IsVector n zs
+made_vector n t p y qs vs h m zs are =
+    let whole : IsVector p.size zs = record { len = are.len; small = small_same p.size (moved_at p y vs h) (at zs) (λ k l. sym (are.each k l)) are.small } in
+    subst (λ s. IsVector s zs) m.size whole
+
+-- what `moved` answers is what `turn` answers
+pub made_turned : (n : ℕ) (t : Table) (p : PilotTable) (y qs vs : List ℤ) (h : ℕ) → IsMade n t p y qs vs h → (zs : List ℤ) → AreSmallNumbers p.size (moved_at p y vs h) zs → IsTurned n t p (at y) zs
+made_turned n t p y qs vs h m zs are = record {
+  vector = made_vector n t p y qs vs h m zs are;
+  turn = made_turn n t p y qs vs h m (at zs) (λ i row. are.each i (omega (arith, m.size)));
+}
+
+pub made_refused : (n : ℕ) (t : Table) (p : PilotTable) (y qs vs : List ℤ) (h : ℕ) → IsMade n t p y qs vs h → (e : VectorError) → IsPassed p.size (moved_at p y vs h) e → IsTurnRefused n t p (at y) e
+made_refused n t p y qs vs h m (Range row) passed =
+    let z = moved_at p y vs h in
+    (z, (made_turn n t p y qs vs h m z (λ i l. refl), record { within = omega (arith, m.size, passed.within); before = passed.before; past = passed.past }))
+made_refused n t p y qs vs h m Memory passed = passed
+
+-- ---- several turns
+-- the zeros are a vector to which no turns lead
+zeros_each : (n : ℕ) (ys : List ℤ) → ys ≡ replicate n (pos 0) → (k : ℕ) → k < n → at ys k ≡ pos 0
+zeros_each n ys e k h = rw e (get_or-replicate n k (pos 0) (pos 0) h)
+
+zeros_small : (n : ℕ) (ys : List ℤ) → ys ≡ replicate n (pos 0) → IsVector n ys
+zeros_small n ys e =
+    let t = total_to-bound n (λ k. unsigned_abs (at ys k)) 0 (λ k l. omega (arith, ap unsigned_abs (zeros_each n ys e k l))) in
+    record { len = rw e (length-replicate n (pos 0)); small = omega (arith, t) }
+
+-- a vector to which this many turns lead
+pub record IsVectorAfter (n : ℕ) (t : Table) (p : PilotTable) (k : ℕ) (ys : List ℤ) : Type 0 where
+  pub vector : IsVector n ys
+  pub turns : AfterTurns n t p k (at ys)
+
+pub zeros_after : (n : ℕ) (t : Table) (p : PilotTable) (ys : List ℤ) → ys ≡ replicate n (pos 0) → IsVectorAfter n t p 0 ys
+zeros_after n t p ys e = record { vector = zeros_small n ys e; turns = zeros_each n ys e }
+
+-- one turn more
+pub turned_after : (n : ℕ) (t : Table) (p : PilotTable) (k : ℕ) (ys zs : List ℤ) → IsVectorAfter n t p k ys → IsTurned n t p (at ys) zs → IsVectorAfter n t p (k + 1) zs
+turned_after n t p k ys zs v turned = rw add-one (record { vector = turned.vector; turns = (at ys, (v.turns, (v.vector.small, turned.turn))) })
+
+-- after three turns it is the start vector
+pub start_after : (n : ℕ) (t : Table) (p : PilotTable) (k : ℕ) (ys : List ℤ) → k ≡ 3 → IsVectorAfter n t p k ys → IsStartVector n t p (at ys)
+start_after n t p k ys e v = record { turns = subst (λ m. AfterTurns n t p m (at ys)) e v.turns; small = v.vector.small }
+
+-- a refusal of the next turn is one of the start vector
+pub refused_after : (n : ℕ) (t : Table) (p : PilotTable) (k : ℕ) (ys : List ℤ) → k < 3 → IsVectorAfter n t p k ys → (e : VectorError) → IsTurnRefused n t p (at ys) e → IsVectorRefused n t p e
+refused_after n t p k ys few v (Range row) r = record {
+  turn = suc k;
+  some = omega arith;
+  few = few;
+  z = r.0;
+  turns = (at ys, (v.turns, (v.vector.small, r.1.0)));
+  within = r.1.1.within;
+  before = r.1.1.before;
+  past = r.1.1.past;
+}
+refused_after n t p k ys few v Memory r = r

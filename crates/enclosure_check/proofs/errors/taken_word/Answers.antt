@@ -1,0 +1,13 @@
+use Rattle.std.proofs.Common.{rules, FitsSigned}
+use Rattle.std.specs.Int.{w128}
+use Rattle.std.proofs.lemmas.Int.{to_z-of_z}
+use Rattle.chol_factor.specs.Squares.{at}
+use Rattle.enclosure_check.proofs.ErrorLaws.{taken_small}
+use Rattle.enclosure_check.proofs.errors.taken_word.Goals as goal
+
+pub mul_small-requires : goal.mul_small-requires
+mul_small-requires g c =
+    let w = c.args.w.now in
+    let y = c.args.y.now in
+    let fits : FitsSigned w128 (at y c.args.j) = search rules in
+    rw (to_z-of_z w128 (at y c.args.j) fits, c.get.ensures) (taken_small w.a y c.args.i c.args.j w.words_small c.requires.vector c.requires.row c.requires.column)

@@ -1,0 +1,6 @@
+use Rattle.chol_factor.specs.Squares.{at}
+use Rattle.enclosure_check.specs.Vectors.{AllFitAfter}
+use Rattle.enclosure_check.proofs.vector.fit_after.Given as goal
+
+abbrev pub invariant-loop-k : goal.invariant-loop-k
+invariant-loop-k l = AllFitAfter l.k (at l.numbers) l.h

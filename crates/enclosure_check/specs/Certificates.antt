@@ -1,0 +1,64 @@
+-- The certificate of a pilot at a vector, and where it does not pass.
+-- Source: the residual test of Rump 2010; the scales and bounds are this program's own.
+use Rattle.std.specs.Prelude.{◌≡◌, ◌≤◌, ◌<◌, ◌^◌, ℕ, ℤ, List, length, slice_index_or}
+use Rattle.sys_model.specs.Systems.{Table, left_word, row_parts, row_error, radius}
+use Rattle.whole_numbers.specs.Words.{size, word_shift}
+use Rattle.chol_guess.specs.Pilots.{PilotTable, pilot_word}
+use Rattle.enclosure_check.specs.Least.{IsLeast, greatest_to}
+use Rattle.enclosure_check.specs.declared.Radius.{Radius}
+
+-- each word that y leaves of the right side is at most 2^66 in size after an outward shift by h
+abbrev pub LeftFitsAfter : ℕ → Table → (ℕ → ℤ) → ℕ → Type 0
+LeftFitsAfter n t y h = (i : ℕ) → i < n → size (word_shift h (left_word n t y i)) ≤ 2 ^ 66
+
+-- the defect of row i, in parts of 2^30: what the pilot times the table leaves of the unit table
+abbrev pub parts_of : ℕ → Table → PilotTable → ℕ → ℕ
+parts_of n t p i = row_parts n p.g (pilot_word p) t i
+
+-- the error of row i: what the pilot makes of what y leaves, shifted by h
+abbrev pub error_of : ℕ → Table → PilotTable → (ℕ → ℤ) → ℕ → ℕ → ℕ
+error_of n t p y h i = row_error n p.g h (pilot_word p) t y i
+
+-- the certificate passes at y, and v has its numbers
+pub record IsCertified (n : ℕ) (t : Table) (p : PilotTable) (y : ℕ → ℤ) (v : Radius) : Type 0 where
+  pub h : ℕ
+  pub shift : IsLeast (LeftFitsAfter n t y) h
+  pub parts : v.b ≡ greatest_to n (parts_of n t p)
+  pub error : v.m ≡ greatest_to n (error_of n t p y h)
+  pub error_fits : v.m ≤ 2 ^ 66
+  pub parts_fit : v.b < 2 ^ 30
+  pub len : length v.w.items ≡ n
+  pub radii : (i : ℕ) → i < n → slice_index_or v.w.items i 0 ≡ radius n p.g h (pilot_word p) t y v.b v.m i
+
+-- the error of this row, the first of more than 2^66, is this
+pub record IsResidual (n : ℕ) (t : Table) (p : PilotTable) (y : ℕ → ℤ) (row error : ℕ) : Type 0 where
+  pub h : ℕ
+  pub shift : IsLeast (LeftFitsAfter n t y) h
+  pub within : row < n
+  pub before : (i : ℕ) → i < row → error_of n t p y h i ≤ 2 ^ 66
+  pub here : error ≡ error_of n t p y h row
+  pub past : 2 ^ 66 < error
+
+-- no error passes 2^66, and this row is the first with the greatest defect, which is a whole or more
+pub record IsDefect (n : ℕ) (t : Table) (p : PilotTable) (y : ℕ → ℤ) (row parts : ℕ) : Type 0 where
+  pub h : ℕ
+  pub shift : IsLeast (LeftFitsAfter n t y) h
+  pub errors : (i : ℕ) → i < n → error_of n t p y h i ≤ 2 ^ 66
+  pub within : row < n
+  pub here : parts ≡ parts_of n t p row
+  pub greatest : parts ≡ greatest_to n (parts_of n t p)
+  pub before : (i : ℕ) → i < row → parts_of n t p i < parts
+  pub past : 2 ^ 30 ≤ parts
+
+-- these are the errors of all rows
+pub record AreErrors (n : ℕ) (t : Table) (p : PilotTable) (y : ℕ → ℤ) (errors : List ℕ) : Type 0 where
+  pub h : ℕ
+  pub few : h ≤ 60
+  pub shift : IsLeast (LeftFitsAfter n t y) h
+  pub len : length errors ≡ n
+  pub each : (i : ℕ) → i < n → slice_index_or errors i 0 ≡ error_of n t p y h i
+
+-- these are the defects of all rows
+pub record AreDefects (n : ℕ) (t : Table) (p : PilotTable) (defects : List ℕ) : Type 0 where
+  pub len : length defects ≡ n
+  pub each : (i : ℕ) → i < n → slice_index_or defects i 0 ≡ parts_of n t p i

@@ -1,0 +1,52 @@
+-- The start vector: three turns from 0, each by what the pilot makes of what is left of the right side.
+-- Its rules are this program's own; no law rests on how near to a solution it comes.
+use Rattle.std.specs.Prelude.{◌≡◌, ◌≤◌, ◌<◌, ◌+◌, ◌-◌, ◌^◌, ℕ, zero, suc, ℤ, pos, ◌+ℤ◌, ◌-ℤ◌, ◌*ℤ◌, unsigned_abs}
+use Rattle.whole_numbers.specs.Sum.{sum_to, total_to}
+use Rattle.whole_numbers.specs.Quotients.{floor_over}
+use Rattle.sys_model.specs.Systems.{Table}
+use Rattle.chol_factor.specs.Factor.{middle}
+use Rattle.chol_guess.specs.Pilots.{PilotTable, pilot_word}
+use Rattle.enclosure_check.specs.Least.{IsLeast}
+
+-- what y leaves of the right side in row i, by the middles of the words
+abbrev pub middle_left : ℕ → Table → (ℕ → ℤ) → ℕ → ℤ
+middle_left n t y i = middle (t.right i) -ℤ sum_to n (λ j. middle (t.entry i j) *ℤ y j)
+
+-- each of the numbers q over 2^h is at most 2^66 in size
+abbrev pub AllFitAfter : ℕ → (ℕ → ℤ) → ℕ → Type 0
+AllFitAfter n q h = (i : ℕ) → i < n → unsigned_abs (floor_over (q i) (2 ^ h)) ≤ 2 ^ 66
+
+-- y and what the pilot makes of the numbers q over 2^h
+abbrev pub moved : ℕ → PilotTable → (ℕ → ℤ) → ℕ → (ℕ → ℤ) → ℕ → ℤ
+moved n p q h y i = y i +ℤ floor_over (sum_to n (λ k. pilot_word p i k *ℤ floor_over (q k) (2 ^ h))) (2 ^ (p.g + 60 - h))
+
+-- one turn leads from y to z
+pub record IsTurn (n : ℕ) (t : Table) (p : PilotTable) (y z : ℕ → ℤ) : Type 0 where
+  pub h : ℕ
+  pub shift : IsLeast (AllFitAfter n (middle_left n t y)) h
+  pub rows : (i : ℕ) → i < n → z i ≡ moved n p (middle_left n t y) h y i
+
+-- the sizes of the first n numbers add up to at most 2^64
+abbrev pub IsSmall : ℕ → (ℕ → ℤ) → Type 0
+IsSmall n y = total_to n (λ i. unsigned_abs (y i)) ≤ 2 ^ 64
+
+-- this many turns lead from 0 to z, and each began with a small vector
+abbrev pub AfterTurns : ℕ → Table → PilotTable → ℕ → (ℕ → ℤ) → Type 0
+AfterTurns n t p zero z = (i : ℕ) → i < n → z i ≡ pos 0
+AfterTurns n t p (suc k) z = (y : ℕ → ℤ) × (AfterTurns n t p k y × (IsSmall n y × IsTurn n t p y z))
+
+-- y is the start vector of the pilot p
+pub record IsStartVector (n : ℕ) (t : Table) (p : PilotTable) (y : ℕ → ℤ) : Type 0 where
+  pub turns : AfterTurns n t p 3 y
+  pub small : IsSmall n y
+
+-- after one of the turns the sizes pass 2^64, at this row first
+pub record IsVectorRange (n : ℕ) (t : Table) (p : PilotTable) (row : ℕ) : Type 0 where
+  pub turn : ℕ
+  pub some : 1 ≤ turn
+  pub few : turn ≤ 3
+  pub z : ℕ → ℤ
+  pub turns : AfterTurns n t p turn z
+  pub within : row < n
+  pub before : IsSmall row z
+  pub past : ¬ (IsSmall (suc row) z)

@@ -1,0 +1,93 @@
+//! The certificate of a linear system whose words are intervals: a start vector, the residual test, and with it bounds
+//! between which every solution of every system in the words lies (Rump 2010).
+#![tactic(auto)]
+
+use chol_guess::Pilot;
+use thiserror::Error;
+
+mod certificate;
+#[cfg(test)]
+mod certificate_tests;
+mod defects;
+mod enclosing;
+#[cfg(test)]
+mod enclosing_tests;
+mod errors;
+mod vector;
+#[cfg(test)]
+mod vector_tests;
+
+pub use certificate::check;
+pub use defects::row_defect;
+pub use enclosing::enclose;
+pub use vector::start_vector;
+
+/// Why a working table has no start vector.
+#[derive(Clone, Copy, Debug, PartialEq, Eq, Error)]
+pub enum VectorError {
+    /// After a turn the sizes of the vector pass 2^64 in sum, at this row first.
+    #[error("the start vector passes its bound in row {row}")]
+    Range { row: usize },
+    /// Memory is wanting.
+    #[error("out of memory")]
+    Memory,
+}
+
+/// The numbers of a certificate that passes, in units of the working table.
+#[derive(Drop)]
+pub struct Radius {
+    /// The greatest defect of a row, in parts of 2^30.
+    pub b: u64,
+    /// The greatest error of a row.
+    pub m: u128,
+    /// How far a solution may be from the vector, row by row.
+    pub w: Vec<u128>,
+}
+
+/// Why a certificate does not pass.
+#[derive(Clone, Copy, Debug, PartialEq, Eq, Error)]
+pub enum CheckError {
+    /// The error of this row, the first of more than 2^66, is `size`.
+    #[error("the error of row {row} is {size}")]
+    Residual { row: usize, size: u128 },
+    /// The defect of this row, the first of the greatest, is `parts`: 2^30 or more.
+    #[error("the defect of row {row} is {parts}")]
+    Defect { row: usize, parts: u64 },
+    /// Memory is wanting.
+    #[error("out of memory")]
+    Memory,
+}
+
+/// A pilot, its start vector and their certificate.
+#[derive(Drop)]
+pub struct Enclosed {
+    /// The pilot.
+    pub pilot: Pilot,
+    /// The start vector, in units of the working table.
+    pub y: Vec<i128>,
+    /// The certificate at the start vector.
+    pub radius: Radius,
+}
+
+/// Why a working table has no enclosure.
+#[derive(Clone, Copy, Debug, PartialEq, Eq, Error)]
+pub enum EncloseError {
+    /// The table has no pilot: its factor ends before this column.
+    #[error("no pivot in row {row}")]
+    Pivot { row: usize },
+    /// The table has no pilot: this column passes its bounds.
+    #[error("column {col} passes its bounds at each scale")]
+    Condition { col: usize },
+    /// The start vector passes its bound at this row.
+    #[error("the start vector passes its bound in row {row}")]
+    Range { row: usize },
+    /// The error of this row, the first of more than 2^66, is `size`.
+    #[error("the error of row {row} is {size}")]
+    Residual { row: usize, size: u128 },
+    /// The defect of this row, the first of the greatest, is `parts`: 2^30 or more.
+    #[error("the defect of row {row} is {parts}")]
+    Defect { row: usize, parts: u64 },
+    /// Memory is wanting.
+    #[error("out of memory")]
+    Memory,
+}

@@ -1,0 +1,248 @@
+//! The start vector.
+
+ghost use Rattle.std.specs.Prelude.{◌≡◌, ◌≤◌, ◌<◌, ◌+◌, ◌^◌, ◌↔◌, pos, length, replicate, unsigned_abs, IsTrue, IfOk, IfErr, MatchResult};
+ghost use Rattle.std.specs.Vec.{vec_len};
+ghost use Rattle.whole_numbers.specs.Sum.{sum_to};
+ghost use Rattle.chol_factor.specs.Squares.{at, AllAtMost};
+ghost use Rattle.equil.specs.Tables.{table_of};
+ghost use Rattle.enclosure_check.specs.Answers.{IsVectorRefused};
+ghost use Rattle.enclosure_check.specs.ErrorParts.{IsVector};
+ghost use Rattle.enclosure_check.specs.Least.{IsLeast};
+ghost use Rattle.enclosure_check.specs.VectorParts.{taken_middle, AreMiddlesLeft, AreFloors, IsRowByNumbers, part_number, AreShiftedNumbers, change_at, moved_at, AreSmallNumbers, IsPassed, IsTurned, IsTurnRefused};
+ghost use Rattle.enclosure_check.specs.Vectors.{IsStartVector, AllFitAfter, middle_left};
+ghost use Rattle.enclosure_check.specs.declared.VectorError.TheVariants.{Memory};
+
+use crate::VectorError;
+use crate::errors::word_at;
+use chol_guess::Pilot;
+use equil::Working;
+use std::alloc::{AllocError, AllocFailed, Global};
+use whole_numbers::{product, shift_floor};
+
+/// The greatest size of a number that the pilot is multiplied with.
+const SHIFTED_LIMIT: u128 = 1 << 66;
+
+/// What the sizes of a vector may add up to.
+const TOTAL_LIMIT: u128 = 1 << 64;
+
+/// How many turns lead to the start vector.
+const TURNS: usize = 3;
+
+impl<T: Drop> From<AllocFailed<T>> for VectorError {
+    ghost from_gives = { λ _ e. e ≡ Memory };
+
+    fn from(_e: AllocFailed<T>) -> VectorError {
+        VectorError::Memory
+    }
+}
+
+impl From<AllocError> for VectorError {
+    ghost from_gives = { λ _ e. e ≡ Memory };
+
+    fn from(_e: AllocError) -> VectorError {
+        VectorError::Memory
+    }
+}
+
+/// What number `j` of the vector takes of row `i`, by the middle of the word.
+fn taken_middle<const N: usize>(w: &Working<N>, y: &[i128], i: usize, j: usize) -> i128
+    requires vector { IsVector w.now.a.size y.now }
+    requires row { i < w.now.a.size }
+    requires column { j < w.now.a.size }
+    ensures { result ≡ taken_middle w.now.a y.now i j }
+{
+    product(w.a.get(i, j).mid(), y[j])
+}
+
+/// What the vector takes of row `i`, by the middles of the words.
+fn taken<const N: usize>(w: &Working<N>, y: &[i128], i: usize) -> i128
+    requires vector { IsVector w.now.a.size y.now }
+    requires row { i < w.now.a.size }
+    ensures value { result ≡ sum_to w.now.a.size (taken_middle w.now.a y.now i) }
+    ensures bound { unsigned_abs result ≤ 2 ^ 125 }
+{
+    let mut sum: i128 = 0;
+    for j in 0..w.a.size() {
+        sum += taken_middle(w, y, i, j);
+    }
+    sum
+}
+
+/// What the vector leaves of the right side in row `i`, by the middles of the words.
+fn middle_left<const N: usize>(w: &Working<N>, y: &[i128], i: usize) -> i128
+    requires vector { IsVector w.now.a.size y.now }
+    requires row { i < w.now.a.size }
+    ensures value { result ≡ middle_left w.now.a.size (table_of w.now.a w.now.d.items) (at y.now) i }
+    ensures bound { unsigned_abs result ≤ 2 ^ 126 }
+{
+    word_at(&w.d, i).mid() - taken(w, y, i)
+}
+
+/// What the vector leaves of the right side, row by row.
+fn middles_left<const N: usize>(
+    alloc: Global,
+    w: &Working<N>,
+    y: &[i128],
+) -> Result<Vec<i128>, AllocError>
+    requires { IsVector w.now.a.size y.now }
+    ensures { IfOk result (λ v. AreMiddlesLeft w.now.a.size (table_of w.now.a w.now.d.items) (at y.now) v.items) }
+{
+    let mut numbers = Vec::new(alloc);
+    for i in 0..w.a.size() {
+        numbers.push(middle_left(w, y, i))?;
+    }
+    Ok(numbers)
+}
+
+/// Whether each number over 2^h is at most 2^66 in size.
+fn fit_after(numbers: &[i128], h: u32) -> bool
+    requires { h ≤ 60 }
+    ensures { IsTrue result ↔ AllFitAfter (length numbers.now) (at numbers.now) h }
+{
+    for k in 0..numbers.len() {
+        if shift_floor(numbers[k], h).unsigned_abs() > SHIFTED_LIMIT {
+            return false;
+        }
+    }
+    true
+}
+
+/// The least shift after which each number is at most 2^66 in size.
+fn least_shift(numbers: &[i128]) -> u32
+    requires { AllAtMost (2 ^ 126) numbers.now }
+    ensures few { result ≤ 60 }
+    ensures least { IsLeast (AllFitAfter (length numbers.now) (at numbers.now)) result }
+{
+    let mut h = 0;
+    while h < 60 && !fit_after(numbers, h) {
+        h += 1;
+    }
+    h
+}
+
+/// The numbers over 2^h, rounded down.
+fn floors(alloc: Global, numbers: &[i128], h: u32) -> Result<Vec<i128>, AllocError>
+    requires { h ≤ 60 }
+    ensures { IfOk result (λ v. AreFloors h numbers.now v.items) }
+{
+    let mut shifted = Vec::new(alloc);
+    for k in 0..numbers.len() {
+        shifted.push(shift_floor(numbers[k], h))?;
+    }
+    Ok(shifted)
+}
+
+/// The product of number `k` of a row of the pilot and number `k`.
+fn part_number(row: &[i64], numbers: &[i128], k: usize) -> i128
+    requires sizes { IsRowByNumbers row.now numbers.now }
+    requires within { k < length numbers.now }
+    ensures { result ≡ part_number row.now numbers.now k }
+{
+    product(i128::from(row[k]), numbers[k])
+}
+
+/// What a row of the pilot makes of the numbers.
+fn row_by_numbers(row: &[i64], numbers: &[i128]) -> i128
+    requires { IsRowByNumbers row.now numbers.now }
+    ensures value { result ≡ sum_to (length numbers.now) (part_number row.now numbers.now) }
+    ensures bound { unsigned_abs result ≤ 2 ^ 126 }
+{
+    let mut sum: i128 = 0;
+    for k in 0..numbers.len() {
+        sum += part_number(row, numbers, k);
+    }
+    sum
+}
+
+/// What row `i` of the pilot makes of the numbers, which were shifted by `h`.
+fn change_at(p: &Pilot, numbers: &[i128], h: u32, i: usize) -> i128
+    requires numbers { AreShiftedNumbers p.now.size numbers.now }
+    requires few { h ≤ 60 }
+    requires row { i < p.now.size }
+    ensures value { result ≡ change_at p.now numbers.now h i }
+    ensures bound { unsigned_abs result ≤ 2 ^ 126 }
+{
+    shift_floor(row_by_numbers(p.row(i), numbers), p.g() + 60 - h)
+}
+
+/// Number `i` of the vector and its change.
+fn moved_at(p: &Pilot, y: &[i128], numbers: &[i128], h: u32, i: usize) -> i128
+    requires vector { IsVector p.now.size y.now }
+    requires numbers { AreShiftedNumbers p.now.size numbers.now }
+    requires few { h ≤ 60 }
+    requires row { i < p.now.size }
+    ensures value { result ≡ moved_at p.now y.now numbers.now h i }
+    ensures bound { unsigned_abs result ≤ 2 ^ 64 + 2 ^ 126 }
+{
+    y[i] + change_at(p, numbers, h, i)
+}
+
+/// The vector and its changes. Range comes exactly where the sizes pass 2^64 in sum, with the row at which they first do.
+fn moved(
+    alloc: Global,
+    p: &Pilot,
+    y: &[i128],
+    numbers: &[i128],
+    h: u32,
+) -> Result<Vec<i128>, VectorError>
+    requires vector { IsVector p.now.size y.now }
+    requires numbers { AreShiftedNumbers p.now.size numbers.now }
+    requires few { h ≤ 60 }
+    ensures { MatchResult result (λ z. AreSmallNumbers p.now.size (moved_at p.now y.now numbers.now h) z.items) (IsPassed p.now.size (moved_at p.now y.now numbers.now h)) }
+{
+    let mut z = Vec::new(alloc);
+    let mut total: u128 = 0;
+    for row in 0..p.size() {
+        let number = moved_at(p, y, numbers, h, row);
+        total += number.unsigned_abs();
+        if total > TOTAL_LIMIT {
+            return Err(VectorError::Range { row });
+        }
+        z.push(number)?;
+    }
+    Ok(z)
+}
+
+/// The vector after one turn from `y`. Range comes exactly where its sizes pass 2^64 in sum, with the row at which they
+/// first do.
+fn turn<const N: usize>(
+    alloc: Global,
+    w: &Working<N>,
+    p: &Pilot,
+    y: &[i128],
+) -> Result<Vec<i128>, VectorError>
+    requires sizes { p.now.size ≡ w.now.a.size }
+    requires vector { IsVector w.now.a.size y.now }
+    ensures { MatchResult result (λ z. IsTurned w.now.a.size (table_of w.now.a w.now.d.items) p.now (at y.now) z.items) (IsTurnRefused w.now.a.size (table_of w.now.a w.now.d.items) p.now (at y.now)) }
+{
+    let numbers = middles_left(alloc, w, y)?;
+    let h = least_shift(&numbers);
+    let shifted = floors(alloc, &numbers, h)?;
+    moved(alloc, p, y, &shifted, h)
+}
+
+/// The vector of zeros.
+fn zeros(alloc: Global, n: usize) -> Result<Vec<i128>, AllocError>
+    ensures { IfOk result (λ v. v.items ≡ replicate n (pos 0)) }
+{
+    vec![in alloc; 0i128; n]
+}
+
+/// The start vector of the pilot, in units of the working table. Range comes exactly where after one of the three turns
+/// the sizes of the vector pass 2^64 in sum, with the row at which they first do.
+pub fn start_vector<const N: usize>(
+    alloc: Global,
+    w: &Working<N>,
+    p: &Pilot,
+) -> Result<Vec<i128>, VectorError>
+    requires { p.now.size ≡ w.now.a.size }
+    ensures len { IfOk result (λ y. vec_len y ≡ w.now.a.size) }
+    ensures vector { IfOk result (λ y. IsStartVector w.now.a.size (table_of w.now.a w.now.d.items) p.now (at y.items)) }
+    ensures refused { IfErr result (IsVectorRefused w.now.a.size (table_of w.now.a w.now.d.items) p.now) }
+{
+    let mut y = zeros(alloc, w.a.size())?;
+    for k in 0..TURNS {
+        y = turn(alloc, w, p, &y)?;
+    }
+    Ok(y)
+}

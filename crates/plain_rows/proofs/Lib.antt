@@ -1,0 +1,9 @@
+pub mod Ascending
+pub mod BlockLaws
+pub mod Cutting
+pub mod MatrixLaws
+pub mod Modest
+pub mod Readings
+pub mod Runs
+pub mod SixColumns
+pub mod Values

@@ -1,0 +1,10 @@
+pub mod Alone
+pub mod AloneFirsts
+pub mod AloneStages
+pub mod AloneSteps
+pub mod AloneWorking
+pub mod ElementLaws
+pub mod LawExact
+pub mod RowLaws
+pub mod SolvingLaws
+pub mod StackLaws

@@ -1,0 +1,5 @@
+pub mod Exact
+pub mod Files
+pub mod Refusals
+pub mod Solving
+pub mod Words
