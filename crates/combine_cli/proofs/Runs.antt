@@ -7,7 +7,7 @@ use Rattle.desk_io.specs.Whole.{WritesFile, HoldsPart}
 use Rattle.desk_io.specs.declared.desk.DeskError.{DeskError}
 use Rattle.combine_cli.specs.Verdict.{Output, Refusal, Outcome, IsVerdict, Leaves, Stopped, StoppedAt, memory_line, desk_line, line_of}
 use Rattle.combine_cli.specs.Headline.{HasVerdict}
-use Rattle.combine_cli.specs.Plan.{IsPlanned, SaysPart, CutShort}
+use Rattle.combine_cli.specs.Plan.{IsPlanned, IsRefusalStatus, SaysPart, CutShort}
 use Rattle.combine_cli.proofs.Verdicts.{one_verdict, planned_verdict}
 
 -- a fact is what an error needs
@@ -57,6 +57,10 @@ writes_report words files status output old new v h =
     let leaves = subst (λ o. Leaves status o old new) (one_verdict words files h.outcome (Ok output) h.verdict v) h.holds in leaves.0
 
 -- ---- runs that were cut short
+
+-- what was carried out ends with another status
+pub not_cut : (status : ℕ) → (status ≡ 0) ⊎ IsRefusalStatus status → (status ≡ 4) ⊎ (status ≡ 5) → ⊥
+not_cut status done cut = grind arith
 
 none_of : (bytes : List ℕ) → IsFront [] bytes
 none_of bytes = (bytes, refl)

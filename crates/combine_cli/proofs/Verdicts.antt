@@ -2,14 +2,14 @@
 use Rattle.std.proofs.Common.{◌≡◌, ◌∷◌, ℕ, Bool, true, false, List, [], length, nat_lt, if◌then◌else◌, Option, Some, None, Ok, Err, refl, sym, ◌∙◌, ap, subst, inl, inr}
 use Rattle.std.specs.Bool.{MatchBool}
 use Rattle.desk_io.specs.Content.{File}
-use Rattle.plain_form.specs.Plain.{IsPlainForm}
-use Rattle.plain_form.specs.declared.Plain.{Plain}
-use Rattle.plain_form.proofs.Alone.{one_plain}
-use Rattle.one_row.specs.Rules.{IsSolved}
-use Rattle.one_row.specs.declared.Solved.{Solved}
-use Rattle.one_row.proofs.SolvedLaws.{alone}
-use Rattle.combine_cli.specs.Report.{bounds_line, report_text}
-use Rattle.combine_cli.specs.Verdict.{Output, Outcome, IsReported, IsVerdictOnText, IsVerdictOnFile, IsVerdict, equation_of, is_solve, file_limit, unbuilt, too_long, no_command}
+use Rattle.plain_rows.specs.Plain.{PlainFile, IsPlainForm}
+use Rattle.solve_plain.specs.Solving.{IsSolved, IsRefusal, IsRefusedWith}
+use Rattle.solve_plain.specs.declared.SolveError.{SolveError}
+use Rattle.solve_plain.specs.declared.SolveError.TheVariants.{Memory}
+use Rattle.solve_plain.proofs.Alone.{one_solution, one_refusal, not_both}
+use Rattle.plain_rows.proofs.Readings.{one_plain}
+use Rattle.combine_cli.specs.Report.{bounds_lines, report_text}
+use Rattle.combine_cli.specs.Verdict.{Output, Outcome, IsReported, IsUncertified, IsVerdictOnText, IsVerdictOnFile, IsVerdict, is_solve, file_limit, uncertified, too_long, no_command}
 use Rattle.combine_cli.specs.Headline.{IsCertifiedReport, IsCertifiedRun}
 use Rattle.desk_io.specs.Whole.{reading}
 use Rattle.desk_io.specs.declared.whole.ReadError.TheVariants.{TooLong}
@@ -20,22 +20,34 @@ use Rattle.combine_cli.specs.declared.decide.Stop.TheVariants as stops
 -- a text has one report at most
 pub one_report : (text one other : List ℕ) → IsReported text one → IsReported text other → one ≡ other
 one_report text one other h k =
-    let plain = one_plain text h.plain k.plain h.reads k.reads in
-    let solved = alone (equation_of k.plain) h.solved k.solved (subst (λ p. IsSolved (equation_of p) h.solved) plain h.solves) k.solves in
-    h.tells ∙ ap (λ p. report_text h.solved.g h.solved.parts h.solved.error (bounds_line p.parameter h.solved.printed ∷ [])) plain
-    ∙ ap (λ s. report_text s.g s.parts s.error (bounds_line k.plain.parameter s.printed ∷ [])) solved
+    let plain : h.plain ≡ k.plain = one_plain text h.plain k.plain h.reads k.reads in
+    let solved : h.solved ≡ k.solved = one_solution k.plain h.solved k.solved (subst (λ p. IsSolved p h.solved) plain h.solves) k.solves in
+    h.tells ∙ ap (λ p. report_text h.solved.g h.solved.parts h.solved.error (bounds_lines 0 p.rows h.solved.rows)) plain
+    ∙ ap (λ s. report_text s.g s.parts s.error (bounds_lines 0 k.plain.rows s.rows)) solved
     ∙ sym k.tells
 
--- a text whose equation a rule refuses has no report
-pub none_unsolved : (text report : List ℕ) (p : Plain) → IsPlainForm text p → ((s : Solved) → IsSolved (equation_of p) s → ⊥) → IsReported text report → ⊥
-none_unsolved text report p reads none h =
-    none h.solved (subst (λ p. IsSolved (equation_of p) h.solved) (one_plain text h.plain p h.reads reads) h.solves)
+-- what the rules refuse has no report
+pub none_uncertified : (text report : List ℕ) (p : PlainFile) (cause : SolveError) → IsReported text report → IsUncertified text p cause → ⊥
+none_uncertified text report p cause h k =
+    not_both p h.solved cause (subst (λ p. IsSolved p h.solved) (one_plain text h.plain p h.reads k.reads) h.solves) k.refused
+
+-- and is refused with one cause
+pub one_uncertified : (from text : List ℕ) (p q : PlainFile) (one other : SolveError) → IsUncertified text p one → IsUncertified text q other
+    → uncertified from p one ≡ uncertified from q other
+one_uncertified from text p q one other h k =
+    let plain : p ≡ q = one_plain text p q h.reads k.reads in
+    ap (λ p. uncertified from p one) plain ∙ ap (uncertified from q) (one_refusal q one other (subst (λ p. IsRefusal p one) plain h.refused) k.refused)
 
 one_on_text : (from to text : List ℕ) (one other : Outcome) → IsVerdictOnText from to text one → IsVerdictOnText from to text other → one ≡ other
 one_on_text from to text one other (inl h) (inl k) = h.2 ∙ ap (λ r. Ok (record { name = to; text = r })) (one_report text h.0 k.0 h.1 k.1) ∙ sym k.2
-one_on_text from to text one other (inl h) (inr k) = absurd (k.0 h.0 h.1)
-one_on_text from to text one other (inr h) (inl k) = absurd (h.0 k.0 k.1)
-one_on_text from to text one other (inr h) (inr k) = h.1 ∙ sym k.1
+one_on_text from to text one other (inl h) (inr (inl k)) = absurd (none_uncertified text h.0 k.0 k.1 h.1 k.2)
+one_on_text from to text one other (inl h) (inr (inr k)) = absurd (k.0 (h.1).plain (h.1).reads)
+one_on_text from to text one other (inr (inl h)) (inl k) = absurd (none_uncertified text k.0 h.0 h.1 k.1 h.2)
+one_on_text from to text one other (inr (inl h)) (inr (inl k)) = h.3 ∙ ap Err (one_uncertified from text h.0 k.0 h.1 k.1 h.2 k.2) ∙ sym k.3
+one_on_text from to text one other (inr (inl h)) (inr (inr k)) = absurd (k.0 h.0 (h.2).reads)
+one_on_text from to text one other (inr (inr h)) (inl k) = absurd (h.0 (k.1).plain (k.1).reads)
+one_on_text from to text one other (inr (inr h)) (inr (inl k)) = absurd (h.0 k.0 (k.2).reads)
+one_on_text from to text one other (inr (inr h)) (inr (inr k)) = h.1 ∙ sym k.1
 
 -- where each of two rules leaves one outcome, so does their choice
 one_by_test : (test : Bool) (P Q : Outcome → Type 0) (one other : Outcome) → (P one → P other → one ≡ other) → (Q one → Q other → one ≡ other)
@@ -142,11 +154,18 @@ text_planned words files from to text report s e h =
 
 -- ---- stops
 
-pub refuses_text : (stop : Stop) (from text : List ℕ) → ((report : List ℕ) → IsReported text report → ⊥) → Refuses stop (λ r. r ≡ unbuilt from)
+refused_by : (p : PlainFile) (cause : SolveError) → IsRefusedWith p cause → (cause ≡ Memory → ⊥) → IsRefusal p cause
+refused_by p cause (inl memory) some = absurd (some memory)
+refused_by p cause (inr h) some = h
+
+-- the stop of a text that the rules refuse
+pub refuses_rules : (stop : Stop) (from text : List ℕ) (p : PlainFile) (cause : SolveError) → IsPlainForm text p → IsRefusedWith p cause
+    → Refuses stop (λ r. r ≡ uncertified from p cause) → Refuses stop (λ r. cause ≡ Memory → ⊥)
     → Refuses stop (λ r. (to : List ℕ) → IsVerdictOnText from to text (Err r))
-refuses_text (stops.Refused status line) from text none h = λ to. inr (none, ap Err h)
-refuses_text stops.Fault from text none h = tt
-refuses_text stops.Memory from text none h = tt
+refuses_rules (stops.Refused status line) from text p cause reads refused h some =
+    λ to. inr (inl (p, cause, record { reads = reads; refused = refused_by p cause refused some }, ap Err h))
+refuses_rules stops.Fault from text p cause reads refused h some = tt
+refuses_rules stops.Memory from text p cause reads refused h some = tt
 
 pub refuses_words : (stop : Stop) (words : List (List ℕ)) (files : List ℕ → Option File) (from to text : List ℕ) → IsSolve words from to
     → reading (files from) file_limit ≡ Ok text → Refuses stop (λ r. (to : List ℕ) → IsVerdictOnText from to text (Err r))

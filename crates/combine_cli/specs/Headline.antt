@@ -1,15 +1,20 @@
 -- What a run that wrote its report promises.
-use Rattle.std.specs.Prelude.{◌≡◌, ◌∷◌, ℕ, true, List, [], Some, Option}
+use Rattle.std.specs.Prelude.{◌≡◌, ◌∷◌, ℕ, true, List, [], length, Some, Option}
 use Rattle.desk_io.specs.Content.{File}
-use Rattle.one_row.specs.Bounds.{IsCertified}
-use Rattle.combine_cli.specs.Verdict.{IsReported, Outcome, IsVerdict, equation_of}
+use Rattle.sys_model.specs.Systems.{System}
+use Rattle.bounds_report.specs.Bounds.{LiesInStack, AreCertified}
+use Rattle.bounds_report.specs.Printing.{numbers_at}
+use Rattle.solve_plain.specs.Exact.{IsExact}
+use Rattle.solve_plain.specs.Files.{file_words, apriori_of}
+use Rattle.combine_cli.specs.Verdict.{IsReported, Outcome, IsVerdict}
 
--- The report tells bounds of the text's equation, and they are certified: each system in the words of the equation, the
--- exact one among them, has its solutions between the bounds and at most one of them, and the printed estimate leaves at
--- most the printed residual.
+-- The report tells numbers of the text's normal equations, and they are certified: its exact system lies in its words; for
+-- each system in them each solution lies between the printed bounds, two solutions are equal, and the printed estimates leave at most the
+-- printed residual in every row.
 pub record IsCertifiedReport (text report : List ℕ) : Type 0 where
   pub reported : IsReported text report
-  pub certified : IsCertified (equation_of reported.plain) reported.solved.printed
+  pub exact : (S : System) → IsExact reported.plain S → LiesInStack (length reported.plain.rows) (file_words reported.plain) S
+  pub certified : AreCertified (length reported.plain.rows) (file_words reported.plain) (apriori_of reported.plain.rows) (numbers_at reported.solved.rows)
 
 -- The third word's file holds, finished, a certified report of the second word's.
 pub record IsCertifiedRun (words : List (List ℕ)) (old new : List ℕ → Option File) : Type 0 where

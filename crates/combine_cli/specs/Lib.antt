@@ -1,4 +1,5 @@
 pub mod Headline
+pub mod Lines
+pub mod Plan
 pub mod Report
 pub mod Verdict
-pub mod Plan

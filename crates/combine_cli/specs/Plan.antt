@@ -18,7 +18,7 @@ Refuses stops.Memory P = Unit {0}
 
 -- A refusal has a status of its own.
 abbrev pub IsRefusalStatus : ℕ → Type 0
-IsRefusalStatus status = (status ≡ 2) ⊎ (status ≡ 3)
+IsRefusalStatus status = (status ≡ 2) ⊎ (status ≡ 3) ⊎ (status ≡ 6)
 
 -- The words are `solve` and two different names.
 pub record IsSolve (words : List (List ℕ)) (from to : List ℕ) : Type 0 where

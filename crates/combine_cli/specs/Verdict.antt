@@ -2,12 +2,11 @@
 use Rattle.std.specs.Prelude.{◌≡◌, ◌⊎◌, ◌++◌, ◌∷◌, ◌^◌, ◌&&◌, ℕ, Bool, List, [], length, true, nat_lt, not, MatchBool, Some, None, Option, Result, Ok, Err, codes}
 use Rattle.std.specs.Str.{bytes_eq}
 use Rattle.desk_io.specs.Content.{File, Content, SameBut, IsFront}
-use Rattle.plain_form.specs.Plain.{IsPlainForm}
-use Rattle.plain_form.specs.declared.Plain.{Plain}
-use Rattle.one_row.specs.Rules.{IsSolved}
-use Rattle.one_row.specs.declared.Equation.{Equation}
-use Rattle.one_row.specs.declared.Solved.{Solved}
-use Rattle.combine_cli.specs.Report.{bounds_line, report_text}
+use Rattle.plain_rows.specs.Plain.{PlainFile, IsPlainForm}
+use Rattle.solve_plain.specs.Solving.{Numbers, IsSolved, IsRefusal}
+use Rattle.solve_plain.specs.declared.SolveError.{SolveError}
+use Rattle.combine_cli.specs.Lines.{refusal_line}
+use Rattle.combine_cli.specs.Report.{bounds_lines, report_text}
 
 -- The text of an output, under its name.
 pub record Output : Type 0 where
@@ -44,23 +43,29 @@ memory_line = codes "snxcomb: memory\n"
 abbrev pub desk_line : List ℕ
 desk_line = codes "snxcomb: desk\n"
 
--- the normal equation of a file in the plain form
-abbrev pub equation_of : Plain → Equation
-equation_of p = record { apriori = p.apriori; matrix = p.matrix; vector = p.vector }
+-- a number's range, or the certificate
+abbrev pub uncertified : List ℕ → PlainFile → SolveError → Refusal
+uncertified name p cause = record { status = 6; line = refusal_line name p.rows cause }
 
--- The text is in the plain form, the rules give these numbers for its equation, and the report tells them.
+-- The text is in the plain form, the rules give these numbers for its normal equations, and the report tells them.
 pub record IsReported (text report : List ℕ) : Type 0 where
-  pub plain : Plain
-  pub solved : Solved
+  pub plain : PlainFile
+  pub solved : Numbers
   pub reads : IsPlainForm text plain
-  pub solves : IsSolved (equation_of plain) solved
-  pub tells : report ≡ report_text solved.g solved.parts solved.error (bounds_line plain.parameter solved.printed ∷ [])
+  pub solves : IsSolved plain solved
+  pub tells : report ≡ report_text solved.g solved.parts solved.error (bounds_lines 0 plain.rows solved.rows)
 
--- A text that has a report is answered with it. Every other one is not built yet.
+-- The text is in the plain form, and the rules refuse its normal equations with this cause.
+pub record IsUncertified (text : List ℕ) (plain : PlainFile) (cause : SolveError) : Type 0 where
+  pub reads : IsPlainForm text plain
+  pub refused : IsRefusal plain cause
+
+-- A text in the plain form is answered with its report, or with the first cause of the rules. Every other one is not built yet.
 abbrev pub IsVerdictOnText : List ℕ → List ℕ → List ℕ → Outcome → Type 0
 IsVerdictOnText from to text outcome =
     ((report : List ℕ) × IsReported text report × (outcome ≡ Ok (record { name = to; text = report })))
-    ⊎ (((report : List ℕ) → IsReported text report → ⊥) × (outcome ≡ Err (unbuilt from)))
+    ⊎ (((plain : PlainFile) × (cause : SolveError) × IsUncertified text plain cause × (outcome ≡ Err (uncertified from plain cause)))
+    ⊎ (((plain : PlainFile) → IsPlainForm text plain → ⊥) × (outcome ≡ Err (unbuilt from))))
 
 -- A file that isn't there and one that is too long are refused before anything of them is read.
 abbrev pub IsVerdictOnFile : List ℕ → List ℕ → Option File → Outcome → Type 0
@@ -113,4 +118,4 @@ pub record Stopped (outcome : Outcome) (old new : Content) : Type 0 where
 
 -- the statuses that a run answers
 abbrev pub IsStatus : ℕ → Type 0
-IsStatus status = (status ≡ 0) ⊎ (status ≡ 2) ⊎ (status ≡ 3) ⊎ (status ≡ 4) ⊎ (status ≡ 5)
+IsStatus status = (status ≡ 0) ⊎ (status ≡ 2) ⊎ (status ≡ 3) ⊎ (status ≡ 4) ⊎ (status ≡ 5) ⊎ (status ≡ 6)

@@ -3,15 +3,20 @@ ghost use Rattle.std.specs.Prelude.{◌≡◌, ◌≢◌, ◌≤◌, ◌++◌, �
 ghost use Rattle.desk_io.specs.Content.{File, KeepsAll};
 ghost use Rattle.desk_io.specs.Desk.{Rose};
 ghost use Rattle.desk_io.specs.Whole.{reading};
+ghost use Rattle.plain_rows.specs.Plain.{IsPlainForm};
+ghost use Rattle.solve_plain.specs.Files.{file_of};
+ghost use Rattle.combine_cli.specs.Lines.{refusal_line};
 ghost use Rattle.combine_cli.specs.Verdict.{file_limit, no_command, IsVerdict, IsVerdictOnFile, IsVerdictOnText};
 ghost use Rattle.combine_cli.specs.Headline.{IsCertifiedReport};
 ghost use Rattle.combine_cli.specs.Plan.{output_of, Refuses, IsRefusalStatus, IsSolve, IsPlanned};
 
+use crate::lines::refusal_line;
 use crate::report::report;
 use desk_io::{Desk, ReadError, read_all};
-use one_row::{Equation, solve_equation};
-use plain_form::read_plain;
+use plain_rows::{Plain, Row, read_plain};
+use solve_plain::{SolveError, solve};
 use std::alloc::{AllocError, Global};
+use std::thread::Threads;
 
 // The most bytes of a file: 64 MiB.
 const FILE_LIMIT: usize = 67_108_864;
@@ -57,7 +62,7 @@ fn solve_names(words: &[String]) -> Option<Names<'_>>
 }
 
 // A refusal's line: what it says, a name and the line's end.
-fn refusal_line(alloc: Global, what: &[u8], name: &str) -> Result<Vec<u8>, AllocError>
+fn file_line(alloc: Global, what: &[u8], name: &str) -> Result<Vec<u8>, AllocError>
     ensures { IfOk result (λ line. line.items ≡ what.now ++ (name.now ++ codes "\n")) }
 {
     let mut line = Vec::from_slice(alloc, what)?;
@@ -72,7 +77,7 @@ fn refusal(alloc: Global, status: u8, what: &[u8], name: &str) -> Stop
     ensures status { Refuses result (λ r. IsRefusalStatus r.status) }
     ensures no_fault { result ≢ Stop.Fault }
 {
-    match refusal_line(alloc, what, name) {
+    match file_line(alloc, what, name) {
         Ok(line) => Stop::Refused { status, line },
         Err(_) => Stop::Memory,
     }
@@ -96,32 +101,63 @@ fn input<D: Desk>(alloc: Global, from: &str, desk: &mut D) -> Result<Vec<u8>, St
     }
 }
 
-// The certified report of a text, or that it has none.
-fn report_on(alloc: Global, from: &str, text: &[u8]) -> Result<Vec<u8>, Stop>
+// The refusal of the rules for this cause.
+fn uncertified(alloc: Global, from: &str, rows: &[Row], cause: SolveError) -> Stop
+    ensures line { Refuses result (λ r. r ≡ record { status = 6; line = refusal_line from.now rows.now cause }) }
+    ensures cause { Refuses result (λ r. cause ≢ SolveError.Memory) }
+    ensures no_fault { result ≢ Stop.Fault }
+{
+    match refusal_line(alloc, from, rows, cause) {
+        Ok(line) => Stop::Refused { status: 6, line },
+        Err(_) => Stop::Memory,
+    }
+}
+
+// The certified report of a text in the plain form, or the refusal of the rules.
+fn report_of<R: Threads + Sync>(
+    rt: &R,
+    alloc: Global,
+    from: &str,
+    text: &[u8],
+    plain: &Plain,
+) -> Result<Vec<u8>, Stop>
+    requires { IsPlainForm text.now (file_of plain.now) }
+    ensures report { IfOk result (λ report. IsCertifiedReport text.now report.items) }
+    ensures refused { IfErr result (λ stop. Refuses stop (λ r. (to : List ℕ) → IsVerdictOnText from.now to text.now (Err r))) }
+    ensures status { IfErr result (λ stop. Refuses stop (λ r. r.status ≡ 6)) }
+    ensures no_fault { IfErr result (λ stop. stop ≢ Stop.Fault) }
+{
+    match solve(rt, alloc, plain, 1) {
+        Ok(solved) => match report(alloc, &plain.rows, &solved) {
+            Ok(text) => Ok(text),
+            Err(_) => Err(Stop::Memory),
+        },
+        Err(cause) => Err(uncertified(alloc, from, &plain.rows, cause)),
+    }
+}
+
+// The certified report of a text, or why it has none.
+fn report_on<R: Threads + Sync>(
+    rt: &R,
+    alloc: Global,
+    from: &str,
+    text: &[u8],
+) -> Result<Vec<u8>, Stop>
     ensures report { IfOk result (λ report. IsCertifiedReport text.now report.items) }
     ensures refused { IfErr result (λ stop. Refuses stop (λ r. (to : List ℕ) → IsVerdictOnText from.now to text.now (Err r))) }
     ensures status { IfErr result (λ stop. Refuses stop (λ r. IsRefusalStatus r.status)) }
     ensures no_fault { IfErr result (λ stop. stop ≢ Stop.Fault) }
 {
-    let Some(plain) = read_plain(text) else {
-        return Err(refusal(alloc, 3, b"snxcomb: unbuilt ", from));
-    };
-    let equation = Equation {
-        apriori: plain.apriori,
-        matrix: plain.matrix,
-        vector: plain.vector,
-    };
-    let Some(solved) = solve_equation(&equation) else {
-        return Err(refusal(alloc, 3, b"snxcomb: unbuilt ", from));
-    };
-    match report(alloc, &plain, &solved) {
-        Ok(text) => Ok(text),
+    match read_plain(alloc, text) {
+        Ok(Some(plain)) => report_of(rt, alloc, from, text, &plain),
+        Ok(None) => Err(refusal(alloc, 3, b"snxcomb: unbuilt ", from)),
         Err(_) => Err(Stop::Memory),
     }
 }
 
 // The report that is to be written, or why none is. Nothing is said or created.
-pub(crate) fn decide<'a, D: Desk>(
+pub(crate) fn decide<'a, R: Threads + Sync, D: Desk>(
+    rt: &R,
     alloc: Global,
     words: &'a [String],
     desk: &mut D,
@@ -137,7 +173,7 @@ pub(crate) fn decide<'a, D: Desk>(
         return Err(refusal(alloc, 2, b"snxcomb: words", ""));
     };
     let text = input(alloc, names.from, desk)?;
-    match report_on(alloc, names.from, &text) {
+    match report_on(rt, alloc, names.from, &text) {
         Ok(text) => Ok(Plan {
             name: names.to,
             text,

@@ -2,6 +2,7 @@
 #![tactic(auto)]
 
 mod decide;
+mod lines;
 mod report;
 #[cfg(test)]
 mod tests;

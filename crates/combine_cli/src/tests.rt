@@ -27,7 +27,7 @@ END
 ";
 
 // Each row has an a priori value, a matrix element (`-` for no matrix line) and a vector element, and then the numbers of
-// the certificate and of the parameter's line, or `unbuilt`. tools/one_row.py computes them, apart from this program.
+// the certificate and of the parameter's line, or the line of its refusal. tools/solve.py computes them, apart from this program.
 const ROWS: &str = "\
 .000000000000000E+00 | .30000000000000E+01 | .100000000000000E+01 | g=40 B=1 M=1 | 0.3333333333331000 0.3333333333335000 10000000000000000E-29
 .100000000000000E+01 | 0.10000000000000E+17 | 0 | g=40 B=1 M=0 | 1.0000000000000000 1.0000000000000000 0E-22
@@ -54,18 +54,72 @@ const ROWS: &str = "\
 1.5D+03 | 2.5d-01 | 1e2 | g=40 B=1 M=0 | 1900.0000000000000000 1900.0000000000000000 0E-30
 15+2 | 25-2 | 1E+002 | g=40 B=1 M=0 | 1900.0000000000000000 1900.0000000000000000 0E-30
 0 | .0116 | 213982.2 | g=40 B=1 M=1 | 18446741.3793103448250000 18446741.3793103448290000 520000000000000000000E-30
-0 | .0116 | 213982.3 | unbuilt
-1 | - | 1 | unbuilt
-1 | -4 | 2 | unbuilt
-1 | -1E-19 | 0 | unbuilt
-1 | 1E-19 | 1E-30 | unbuilt
-1 | .10000000000001E+17 | 0 | unbuilt
-1 | 4 | 1E+17 | unbuilt
-1 | 1E-18 | 1E+03 | unbuilt
-1000000000000.1 | 4 | 2 | unbuilt
-1 | 1.152921504606846976 | 2 | unbuilt
-1 | 4 |  | unbuilt
-1 | 4.0.0 | 2 | unbuilt
+0 | .0116 | 213982.3 | range stack STAX/ABCD/A/1/24:001:00000 STAX/ABCD/A/1/24:001:00000
+1 | - | 1 | pivot stack STAX/ABCD/A/1/24:001:00000
+1 | -4 | 2 | range stack STAX/ABCD/A/1/24:001:00000 STAX/ABCD/A/1/24:001:00000
+1 | -1E-19 | 0 | pivot stack STAX/ABCD/A/1/24:001:00000
+1 | 1E-19 | 1E-30 | defect stack STAX/ABCD/A/1/24:001:00000 1073741824
+1 | 0.10000000000001E+17 | 0 | range file:in STAX/ABCD/A/1/24:001:00000 STAX/ABCD/A/1/24:001:00000
+1 | 4 | 1E+17 | range file:in STAX/ABCD/A/1/24:001:00000 STAX/ABCD/A/1/24:001:00000
+1 | 1E-18 | 1E+03 | range stack STAX/ABCD/A/1/24:001:00000 STAX/ABCD/A/1/24:001:00000
+1000000000000.1 | 4 | 2 | unbuilt in
+1 | 1.152921504606846976 | 2 | unbuilt in
+1 | 4 |  | unbuilt in
+1 | 4.0.0 | 2 | unbuilt in
+";
+
+const PAIR_REPORT: &str = "SNXCOMB BOUNDS 1
+CERT g=30 B=1340 M=1 N=2
+     1 STAX   ABCD  A    1 24:001:00000 m    0.9999999999999970 1.0000000000000010 1000000000000000000E-27
+     2 STAY   ABCD  A    1 24:001:00000 m    0.9999999999999980 1.0000000000000020 999999000000000000E-27
+END
+";
+
+// Three stations; in each axis the matrix is singular.
+const THREE_STATIONS: &str = "%=SNX 2.02 ABC 24:002:00000 ABC 24:001:00000 24:002:00000 P 00009 2 S
++SOLUTION/APRIORI
+     1 STAX   AAAA  A    1 24:001:00000 m    2               4000000 .000000E+00
+     2 STAX   BBBB  A    1 24:001:00000 m    2               3000000 .000000E+00
+     3 STAX   CCCC  A    1 24:001:00000 m    2               4500000 .000000E+00
+     4 STAY   AAAA  A    1 24:001:00000 m    2               1000000 .000000E+00
+     5 STAY   BBBB  A    1 24:001:00000 m    2               2000000 .000000E+00
+     6 STAY   CCCC  A    1 24:001:00000 m    2              -1000000 .000000E+00
+     7 STAZ   AAAA  A    1 24:001:00000 m    2               4800000 .000000E+00
+     8 STAZ   BBBB  A    1 24:001:00000 m    2               5000000 .000000E+00
+     9 STAZ   CCCC  A    1 24:001:00000 m    2               4300000 .000000E+00
+-SOLUTION/APRIORI
++SOLUTION/NORMAL_EQUATION_VECTOR
+     1 STAX   AAAA  A    1 24:001:00000 m    2                     0
+     2 STAX   BBBB  A    1 24:001:00000 m    2                     0
+     3 STAX   CCCC  A    1 24:001:00000 m    2                     0
+     4 STAY   AAAA  A    1 24:001:00000 m    2                     0
+     5 STAY   BBBB  A    1 24:001:00000 m    2                     0
+     6 STAY   CCCC  A    1 24:001:00000 m    2                     0
+     7 STAZ   AAAA  A    1 24:001:00000 m    2                     0
+     8 STAZ   BBBB  A    1 24:001:00000 m    2                     0
+     9 STAZ   CCCC  A    1 24:001:00000 m    2                     0
+-SOLUTION/NORMAL_EQUATION_VECTOR
++SOLUTION/NORMAL_EQUATION_MATRIX L
+     1     1               2000000
+     2     1              -1000000
+     2     2               2000000
+     3     1              -1000000
+     3     2              -1000000
+     3     3               2000000
+     4     4               2000000
+     5     4              -1000000
+     5     5               2000000
+     6     4              -1000000
+     6     5              -1000000
+     6     6               2000000
+     7     7               2000000
+     8     7              -1000000
+     8     8               2000000
+     9     7              -1000000
+     9     8              -1000000
+     9     9               2000000
+-SOLUTION/NORMAL_EQUATION_MATRIX L
+%ENDSNX
 ";
 
 #[derive(Clone, Copy)]
@@ -103,6 +157,28 @@ fn file_of(alloc: Global, apriori: &str, matrix: &str, vector: &str) -> Result<S
     }
     text.push_str("-SOLUTION/NORMAL_EQUATION_MATRIX L\n%ENDSNX\n")?;
     Ok(text)
+}
+
+// A file of two rows, of STAX and STAY of ABCD, with these texts in its fields.
+fn pair_of(alloc: Global, diagonal: &str, other: &str, vector: &str) -> Result<String, AllocError> {
+    format!(in alloc;
+        "%=SNX 2.02
++SOLUTION/APRIORI
+     1 STAX   ABCD  A    1 24:001:00000 m    2                     0 .000000E+00
+     2 STAY   ABCD  A    1 24:001:00000 m    2                     0 .000000E+00
+-SOLUTION/APRIORI
++SOLUTION/NORMAL_EQUATION_VECTOR
+     1 STAX   ABCD  A    1 24:001:00000 m    2 {vector:>21}
+     2 STAY   ABCD  A    1 24:001:00000 m    2 {vector:>21}
+-SOLUTION/NORMAL_EQUATION_VECTOR
++SOLUTION/NORMAL_EQUATION_MATRIX L
+     1     1 {diagonal:>21}
+     2     1 {other:>21}
+     2     2 {diagonal:>21}
+-SOLUTION/NORMAL_EQUATION_MATRIX L
+%ENDSNX
+"
+    )
 }
 
 fn report_of(alloc: Global, certificate: &str, numbers: &str) -> Result<String, AllocError> {
@@ -143,25 +219,33 @@ fn ends<R: Threads + Sync + Abort + AllocGlobal>(
     Ok(())
 }
 
+// A run on a file of this text ends so.
+fn solves<R: Threads + Sync + Abort + AllocGlobal>(
+    rt: &R,
+    text: &str,
+    status: u8,
+    said: &str,
+    report: Option<&str>,
+) -> Result<(), Fail> {
+    let alloc = rt.alloc();
+    let mut desk = desk_with(alloc, text, Vec::new(alloc))?;
+    ends(rt, &mut desk, "solve in rep", status, said, report)
+}
+
 // Runs on the file of each row end with its report, or refuse it.
 fn rows_end<R: Threads + Sync + Abort + AllocGlobal>(rt: &R, rows: &str) -> Result<(), Fail> {
     let alloc = rt.alloc();
     for line in rows.lines() {
         let row = row_of(line).expect(rt, "a row");
         let text = file_of(alloc, row.apriori, row.matrix, row.vector)?;
-        let mut desk = desk_with(alloc, text.as_str(), Vec::new(alloc))?;
         if let Some((certificate, numbers)) = row.answer.split_once(" | ") {
             let report = report_of(alloc, certificate, numbers)?;
-            ends(rt, &mut desk, "solve in rep", 0, "", Some(report.as_str()))?;
+            solves(rt, text.as_str(), 0, "", Some(report.as_str()))?;
         } else {
-            ends(
-                rt,
-                &mut desk,
-                "solve in rep",
-                3,
-                "snxcomb: unbuilt in\n",
-                None,
-            )?;
+            let answer = row.answer;
+            let said = format!(in alloc; "snxcomb: {answer}\n")?;
+            let status = if answer == "unbuilt in" { 3 } else { 6 };
+            solves(rt, text.as_str(), status, said.as_str(), None)?;
         }
     }
     Ok(())
@@ -170,16 +254,39 @@ fn rows_end<R: Threads + Sync + Abort + AllocGlobal>(rt: &R, rows: &str) -> Resu
 #[test]
 fn reports(rt: HostRuntime) -> Result<(), Fail> {
     let alloc = rt.alloc();
-    let mut desk = desk_with(alloc, ONE_STATION, Vec::new(alloc))?;
-    ends(
-        &rt,
-        &mut desk,
-        "solve in rep",
-        0,
-        "",
-        Some(ONE_STATION_REPORT),
-    )?;
+    solves(&rt, ONE_STATION, 0, "", Some(ONE_STATION_REPORT))?;
+    let pair = pair_of(alloc, "1000000", "999999", "1999999")?;
+    solves(&rt, pair.as_str(), 0, "", Some(PAIR_REPORT))?;
     rows_end(&rt, ROWS)
+}
+
+// Each file is refused with its line, which names the unknown.
+#[test]
+fn names_unknowns(rt: HostRuntime) -> Result<(), Fail> {
+    let alloc = rt.alloc();
+    let pivot = pair_of(alloc, "4", "4", "1999999")?;
+    solves(
+        &rt,
+        pivot.as_str(),
+        6,
+        "snxcomb: pivot stack STAY/ABCD/A/1/24:001:00000\n",
+        None,
+    )?;
+    let condition = pair_of(alloc, "1", "99999999999999999E-17", "1")?;
+    solves(
+        &rt,
+        condition.as_str(),
+        6,
+        "snxcomb: condition stack STAX/ABCD/A/1/24:001:00000\n",
+        None,
+    )?;
+    solves(
+        &rt,
+        THREE_STATIONS,
+        6,
+        "snxcomb: pivot stack STAX/CCCC/A/1/24:001:00000\n",
+        None,
+    )
 }
 
 #[test]
@@ -206,16 +313,13 @@ fn refusals(rt: HostRuntime) -> Result<(), Fail> {
         "snxcomb: no file none\n",
         None,
     )?;
-    let mut desk = desk_with(alloc, "%=SNX 2.02\n%ENDSNX\n", Vec::new(alloc))?;
-    ends(
+    solves(
         &rt,
-        &mut desk,
-        "solve in rep",
+        "%=SNX 2.02\n%ENDSNX\n",
         3,
         "snxcomb: unbuilt in\n",
         None,
-    )?;
-    Ok(())
+    )
 }
 
 #[test]

@@ -24,7 +24,12 @@ fn write_plan<D: Desk>(desk: &mut D, plan: &Plan<'_>) -> Result<(), DeskError>
 }
 
 // Does what was decided. An error says that it was cut short.
-fn carry_out<D: Desk>(alloc: Global, words: &[String], desk: &mut D) -> Result<u8, DeskError>
+fn carry_out<R: Threads + Sync, D: Desk>(
+    rt: &R,
+    alloc: Global,
+    words: &[String],
+    desk: &mut D,
+) -> Result<u8, DeskError>
     ensures status { IfOk result (λ status. (status ≡ 0) ⊎ IsRefusalStatus status) }
     ensures cause { HasCause (D.faults desk.old) (D.faults desk.new) result }
     ensures done { IsTrue D.tells → IfOk result (λ status. HasVerdict (map string_bytes words.now) (D.content desk.old).files (λ outcome. Leaves status outcome (D.content desk.old) (D.content desk.new))) }
@@ -32,7 +37,7 @@ fn carry_out<D: Desk>(alloc: Global, words: &[String], desk: &mut D) -> Result<u
     ensures untouched { IsTrue D.tells → (name : List ℕ) → (Contains (map string_bytes words.now) name → ⊥) → (D.content desk.new).files name ≡ (D.content desk.old).files name }
     ensures certified { IsTrue D.tells → IfOk result (λ status. status ≡ 0 → IsCertifiedRun (map string_bytes words.now) (D.content desk.old).files (D.content desk.new).files) }
 {
-    match decide(alloc, words, desk) {
+    match decide(rt, alloc, words, desk) {
         Ok(plan) => {
             write_plan(desk, &plan)?;
             Ok(0)
@@ -58,9 +63,9 @@ fn say_fault<D: Desk>(desk: &mut D) -> u8
 /// Runs the command that the words name, and answers its status.
 ///
 /// The words are those of the command line after the program's name: `solve IN REPORT`. The status is 0 where REPORT was
-/// written; 2 where the words are no command; 3 where the input was refused; 4 for want of memory; 5 where the desk's count
-/// of faults rose. Before 2 and 3 the refusal's line was said whole and no file was created; IN is read to its end before
-/// REPORT is created.
+/// written; 2 where the words are no command; 3 where IN isn't there, is too long or isn't in the plain form; 6 where a
+/// number of it passes its range, or the rules don't certify it; 4 for want of memory; 5 where the desk's count of faults rose.
+/// Before 2, 3 and 6 the refusal's line was said whole and no file was created; IN is read to its end before REPORT is created.
 pub fn run<R: Threads + Sync, D: Desk>(rt: &R, alloc: Global, words: &[String], desk: &mut D) -> u8
     ensures status { IsStatus result }
     ensures later { D.faults desk.old ≤ D.faults desk.new }
@@ -82,11 +87,11 @@ pub fn run<R: Threads + Sync, D: Desk>(rt: &R, alloc: Global, words: &[String], 
     ensures untouched { IsTrue D.tells → (name : List ℕ) → (Contains (map string_bytes words.now) name → ⊥)
         → (D.content desk.new).files name ≡ (D.content desk.old).files name }
 
-    // Each solution of each system in the words of the input's equation, its exact system among them, lies between the
-    // printed bounds; each such system has at most one solution; the printed estimate leaves at most the printed residual.
+    // The exact system of the input's normal equations lies in their words. Each solution of each system in them lies between
+    // the printed bounds, two solutions are equal, and the printed estimates leave at most the printed residual in every row.
     ensures certified { IsTrue D.tells → result ≡ 0 → IsCertifiedRun (map string_bytes words.now) (D.content desk.old).files (D.content desk.new).files }
 {
-    match carry_out(alloc, words, desk) {
+    match carry_out(rt, alloc, words, desk) {
         Ok(status) => status,
         Err(DeskError::Fault) => say_fault(desk),
         Err(DeskError::Memory) => match desk.say(MEMORY_LINE) {

@@ -1,9 +1,15 @@
-use Rattle.std.proofs.Common.{◌∙◌}
-use Rattle.combine_cli.proofs.Texts.{one_line, vec_is}
+use Rattle.std.proofs.Common.{◌∙◌, ap, flat_map, length, List}
+use Rattle.bounds_report.specs.declared.numbers.Printed.{Printed}
+use Rattle.combine_cli.specs.Report.{bounds_lines}
+use Rattle.combine_cli.proofs.Texts.{length-bounds_lines, report_is, vec_is}
 use Rattle.combine_cli.proofs.report.report.Goals as goal
 
 pub returns : goal.returns
 returns c =
+    let rows = c.args.rows.now in
+    let numbers = c.args.solved.now.rows.items in
     vec_is c.framed.result _ _
-    (one_line _ _ _ c.as_str.result.now c.deref.result.now _ (c.as_str.ensures.value ∙ c.in_ok-certificate.ensures) (c.deref.ensures.value ∙ c.in_ok-line.ensures))
+    (report_is _ _ _ (length rows) _ _ (bounds_lines 0 rows numbers) (c.as_str.ensures.value ∙ c.in_ok-certificate.ensures)
+    (c.deref-2.ensures.value ∙ c.in_ok-lines.ensures ∙ ap (λ (ns : List Printed). flat_map (λ line. line) (bounds_lines 0 rows ns)) c.deref.ensures.value)
+    (length-bounds_lines 0 rows numbers c.requires))
     c.framed.ensures

@@ -1,6 +1,6 @@
 use Rattle.std.proofs.Common.{inl, map, string_bytes}
 use Rattle.combine_cli.proofs.Verdicts.{one_verdict}
-use Rattle.combine_cli.proofs.Runs.{writes_report, said_part, ends_with_memory, ends_with_fault, ends_with_both}
+use Rattle.combine_cli.proofs.Runs.{writes_report, not_cut, said_part, ends_with_memory, ends_with_fault, ends_with_both}
 use Rattle.combine_cli.proofs.top.run.Goals as goal
 
 pub returns-in-Ok-clause-alone : goal.returns-in-Ok-clause-alone
@@ -8,6 +8,9 @@ returns-in-Ok-clause-alone g c = one_verdict (map string_bytes c.args.words.now)
 
 pub returns-in-Ok-clause-complete : goal.returns-in-Ok-clause-complete
 returns-in-Ok-clause-complete g c = λ tells output verdict none. inl (writes_report _ _ _ output _ _ verdict (c.in-Ok.ensures.done tells))
+
+pub returns-in-Ok-clause-stopped : goal.returns-in-Ok-clause-stopped
+returns-in-Ok-clause-stopped g c = λ tells cut. absurd (not_cut c.in-Ok.status c.in-Ok.ensures.status cut)
 
 pub returns-in-Err-Fault-clause-alone : goal.returns-in-Err-Fault-clause-alone
 returns-in-Err-Fault-clause-alone g c = one_verdict (map string_bytes c.args.words.now) (g.D.Desk.content c.args.desk.now).files

@@ -1,0 +1,42 @@
+-- A file in the plain form is sound.
+use Rattle.std.proofs.Common.{◌≡◌, ◌<◌, ◌-◌, ◌^◌, ◌∷◌, ℕ, zero, suc, List, [], length, Bool, if◌then◌else◌, subst, sym, ap, ◌∙◌, arith}
+use Rattle.std.proofs.Math.Dec.{eqb-suc-zero}
+use Rattle.std.proofs.lemmas.List.Elements.{All-nil, All-cons}
+use Rattle.std.specs.List.{All}
+use Rattle.decimal_e.specs.Fractions.{IsAtMost}
+use Rattle.plain_rows.specs.Plain.{PlainFile, IsPlainForm, RowText, ElementText, IsRowOf, IsElementOf, AreEach}
+use Rattle.plain_rows.specs.declared.Row.{Row}
+use Rattle.plain_rows.specs.declared.Element.{Element}
+use Rattle.solve_plain.specs.Files.{IsSound, IsLower, apriori_of}
+
+apriori_of-next : (row : Row) (rows : List Row) (i : ℕ) → apriori_of (row ∷ rows) (suc i) ≡ apriori_of rows i
+apriori_of-next row rows i =
+    let at : suc i - 1 ≡ i = omega arith in
+    ap (λ (b : Bool). if b then row.apriori else apriori_of rows (suc i - 1)) (eqb-suc-zero i) ∙ ap (apriori_of rows) at
+
+modest_rows : (texts : List RowText) (rows : List Row) → AreEach IsRowOf texts rows → (i : ℕ) → i < length rows → IsAtMost (10 ^ 12) (apriori_of rows i)
+modest_rows [] [] h i below = absurd (omega arith)
+modest_rows [] (row ∷ rows) h i below = absurd h
+modest_rows (text ∷ texts) [] h i below = absurd h
+modest_rows (text ∷ texts) (row ∷ rows) h zero below = (h.0).modest
+modest_rows (text ∷ texts) (row ∷ rows) h (suc i) below =
+    let rest : i < length rows = omega arith in
+    subst (IsAtMost (10 ^ 12)) (sym (apriori_of-next row rows i)) (modest_rows texts rows h.1 i rest)
+
+lower_element : (n : ℕ) (text : ElementText) (e : Element) → IsElementOf n text e → IsLower n e
+lower_element n text e h = record { row = omega arith; col = omega arith }
+
+lower_elements : (n : ℕ) (texts : List ElementText) (es : List Element) → AreEach (IsElementOf n) texts es → All (IsLower n) es
+lower_elements n [] [] h = All-nil (IsLower n)
+lower_elements n [] (e ∷ es) h = absurd h
+lower_elements n (text ∷ texts) [] h = absurd h
+lower_elements n (text ∷ texts) (e ∷ es) h = All-cons (IsLower n) e es (lower_element n text e h.0) (lower_elements n texts es h.1)
+
+pub plain_sound : (text : List ℕ) (p : PlainFile) → IsPlainForm text p → IsSound p
+plain_sound text p h = record {
+  some = h.some;
+  few = h.few;
+  modest = modest_rows h.fields.rows p.rows h.rows;
+  within = lower_elements (length p.rows) h.fields.elements p.elements h.elements;
+  ascends = h.pairs;
+}
