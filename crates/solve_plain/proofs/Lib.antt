@@ -8,3 +8,4 @@ pub mod LawExact
 pub mod RowLaws
 pub mod SolvingLaws
 pub mod StackLaws
+pub mod Sound

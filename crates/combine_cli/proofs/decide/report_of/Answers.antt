@@ -1,6 +1,6 @@
 use Rattle.solve_plain.specs.Files.{file_of}
 use Rattle.solve_plain.specs.Solving.{numbers_in}
-use Rattle.combine_cli.proofs.Sound.{plain_sound}
+use Rattle.solve_plain.proofs.Sound.{plain_sound}
 use Rattle.combine_cli.proofs.Verdicts.{refuses_rules}
 use Rattle.combine_cli.proofs.decide.report_of.Goals as goal
 

@@ -1,0 +1,108 @@
+#!/usr/bin/env python3
+"""Times the proved solve beside the same cubic loops in C++, in one run, and prints the ratios.
+
+    bench/times.py kernels [ROWS ..]    factor, columns and defects; the default is 300 and 900 rows
+    bench/times.py solve [ROWS ..]      the whole program on files that bench/make_file.py writes; the default is 30, 300 and 900
+
+It proves and builds crates/step_times and the program first, and compiles bench/kernels.cpp with g++ -O2. Each command runs five
+times, in turn with the yardstick, and the least time of each step counts. Times are of the wall clock, in milliseconds; memory
+is the greatest resident set of the process. The columns are the pilot without its factor. The defects are the certificate whole, with
+its working copies, its errors and its radii.
+"""
+
+import os
+import pathlib
+import re
+import subprocess
+import sys
+import tempfile
+import time
+
+TOP = pathlib.Path(__file__).resolve().parent.parent
+RUNS = 5
+KERNELS = ("factor", "columns", "defects")
+
+
+def build(crate, words):
+    folder = TOP / "crates" / crate
+    subprocess.run(["rt", "run", "--", *words], cwd=folder, check=True, stdout=subprocess.DEVNULL, stderr=subprocess.DEVNULL)
+    return folder / "out" / crate
+
+
+def run(command):
+    """What the command writes, its milliseconds and its megabytes."""
+    start = time.monotonic()
+    process = subprocess.Popen(command, stdout=subprocess.PIPE)
+    text = process.stdout.read().decode()
+    _, status, usage = os.wait4(process.pid, 0)
+    assert status == 0, command
+    return text, 1000 * (time.monotonic() - start), usage.ru_maxrss / 1024
+
+
+def numbers(text):
+    return {name: float(value) for name, value in re.findall(r"(\w+) (\d+(?:\.\d+)?)", text)}
+
+
+def steps(program, words):
+    t = numbers(run([program, *words])[0])
+    t["columns"] = t["pilot"] - t["factor"]
+    t["defects"] = t["check"]
+    return t
+
+
+def yardstick_steps(yardstick, rows):
+    t = numbers(run([yardstick, str(rows)])[0])
+    return {step: 1000 * t[step] for step in KERNELS}
+
+
+def least(runs):
+    return {step: min(t[step] for t in runs) for step in runs[0]}
+
+
+def kernels(program, yardstick, sizes):
+    for rows in sizes:
+        mine, theirs = [], []
+        for _ in range(RUNS):
+            mine.append(steps(program, ["table", str(rows)]))
+            theirs.append(yardstick_steps(yardstick, rows))
+        mine, theirs = least(mine), least(theirs)
+        print(f"{rows} rows: the proved loops, C++, and the ratio")
+        for step in KERNELS:
+            print(f"  {step:8} {mine[step]:8.0f} ms {theirs[step]:8.0f} ms {mine[step] / theirs[step]:6.2f}")
+
+
+def solve(program, solver, yardstick, sizes, folder):
+    for rows in sizes:
+        file = folder / f"{rows}.snx"
+        with open(file, "w") as out:
+            subprocess.run([TOP / "bench" / "make_file.py", str(rows)], stdout=out, check=True)
+        mine, theirs, wholes, memory = [], [], [], 0
+        for _ in range(RUNS):
+            mine.append(steps(program, ["file", str(file)]))
+            theirs.append(yardstick_steps(yardstick, rows))
+            _, whole, peak = run([solver, "solve", str(file), str(folder / "report")])
+            wholes.append(whole)
+            memory = max(memory, peak)
+        mine, theirs = least(mine), least(theirs)
+        mine["print"] = mine["solve"] - sum(mine[step] for step in ("tables", "pilot", "vector", "check"))
+        loops = sum(theirs.values())
+        print(f"{rows} rows, in milliseconds:")
+        print("  " + ", ".join(f"{step} {mine[step]:.0f}" for step in ("read", "tables", "factor", "columns", "vector", "check", "print")))
+        print(f"  the whole program {min(wholes):.0f}; the yardstick's loops {loops:.0f}; ratio {min(wholes) / loops:.2f}; memory {memory:.0f} MB")
+
+
+def main(what, sizes):
+    with tempfile.TemporaryDirectory() as name:
+        folder = pathlib.Path(name)
+        yardstick = folder / "kernels"
+        subprocess.run(["g++", "-O2", "-o", yardstick, TOP / "bench" / "kernels.cpp"], check=True)
+        program = build("step_times", ["table", "3", "quiet"])
+        if what == "kernels":
+            kernels(program, yardstick, sizes or [300, 900])
+        else:
+            solver = build("snxcomb", ["solve", "data/one-station.snx", "/dev/null"])
+            solve(program, solver, yardstick, sizes or [30, 300, 900], folder)
+
+
+if __name__ == "__main__":
+    main(sys.argv[1], [int(word) for word in sys.argv[2:]])
