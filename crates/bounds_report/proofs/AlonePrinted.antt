@@ -3,11 +3,14 @@
 use Rattle.std.proofs.Common.{◌≡◌, ◌≤◌, ◌<◌, ◌^◌, inl, inr, ◌∙◌, ℕ, suc, ℤ, pos, List, length, arith, sym, ap, subst, ext_get_or}
 use Rattle.std.proofs.Math.IntN.{◌-ℤ◌}
 use Rattle.whole_numbers.specs.Words.{Word, size, word_mul}
+use Rattle.whole_numbers.proofs.Cases.{neither_less}
+use Rattle.whole_numbers.proofs.Sums.{total_part, total_to_same}
+use Rattle.whole_numbers.proofs.WordLaws.{sum_words_same}
 use Rattle.decimal_e.specs.Decimals.{Decimal}
 use Rattle.sys_model.specs.Systems.{Table}
 use Rattle.chol_guess.proofs.Alone.{SameBelow}
-use Rattle.enclosure_check.proofs.AloneVectors.{SameTable, flipped_below, neither_less, total_to_same, total_to_fewer}
-use Rattle.enclosure_check.proofs.AloneCertificates.{sum_words_same, sub_same}
+use Rattle.enclosure_check.proofs.AloneVectors.{SameTable, flipped_below}
+use Rattle.enclosure_check.proofs.AloneCertificates.{sub_same}
 use Rattle.bounds_report.specs.Printing.{IsPrintable, working_difference, DifferencesFit, residual_word, lower_of, upper_of, estimate_of, numbers_at, ArePrinted}
 use Rattle.bounds_report.specs.Refusals.{IsFirstUnprintable, IsFirstFar, IsPrintRefused}
 use Rattle.bounds_report.specs.declared.PrintError.TheVariants.{Range}
@@ -55,7 +58,7 @@ module _ (n : ℕ) (x0 : ℕ → Decimal) (e f : ℕ → ℤ) (y z : ℕ → ℤ
       subst (λ s. s ≤ 2 ^ 65) (total_to_same k (λ j. size (working_difference (x0 j) (e j) (y j))) (λ j. size (working_difference (x0 j) (f j) (z j))) (λ j l. ap size (difference_same (x0 j) (e j) (f j) (y j) (z j) (same_e j (omega arith)) (same_y j (omega arith))))) a
 
   fewer_differences : (k m : ℕ) → k ≤ m → DifferencesFit m e x0 y → DifferencesFit k e x0 y
-  fewer_differences k m few a = omega (arith, total_to_fewer k m (λ j. size (working_difference (x0 j) (e j) (y j))) few)
+  fewer_differences k m few a = omega (arith, total_part m (λ j. size (working_difference (x0 j) (e j) (y j))) k few)
 
   residual_same : (t u : Table) (i : ℕ) → SameTable n t u → i < n → residual_word n t e x0 y i ≡ residual_word n u f x0 z i
   residual_same t u i table row =

@@ -2,7 +2,7 @@
 use Rattle.std.proofs.Common.{◌≡◌, ◌^◌, ◌<◌, ℕ, ℤ, pos, ◌+ℤ◌, ◌*ℤ◌, List, unsigned_abs, refl, sym, ap, subst, ◌∙◌}
 use Rattle.whole_numbers.proofs.EqualFractions.{same_from_product}
 use Rattle.whole_numbers.proofs.Powers as Powers
-use Rattle.whole_numbers.proofs.Ring.{ring}
+use Rattle.whole_numbers.proofs.Ring.{*ℤ_right_comm}
 use Rattle.decimal_e.specs.Decimals.{Decimal}
 use Rattle.sys_model.specs.Systems.{System, Fractions, Table, Solves, Encloses}
 use Rattle.equil.specs.Exponents.{IsInRange}
@@ -33,10 +33,7 @@ same_of n t w e y r carries encloses S v u lies one two i row =
     let k = unsigned_abs (pos 12 +ℤ e i) in
     let same = encloses.same (scaled_system (stack_system S) e) (working_numbers v e) (working_numbers u e) (carries.lies (stack_system S) lies)
     (carries.solves (stack_system S) v (stack_solves n S v one)) (carries.solves (stack_system S) u (stack_solves n S u two)) i row in
-    same_from_product (v.x i *ℤ pos u.s) (u.x i *ℤ pos v.s) (10 ^ k) (Powers.ten_above k) (swapped (v.x i) (pos u.s) (pos (10 ^ k)) ∙ same ∙ swapped (u.x i) (pos (10 ^ k)) (pos v.s))
-  where
-    swapped : (x s k : ℤ) → (x *ℤ s) *ℤ k ≡ (x *ℤ k) *ℤ s
-    swapped x s k = simp ring
+    same_from_product (v.x i *ℤ pos u.s) (u.x i *ℤ pos v.s) (10 ^ k) (Powers.ten_above k) (*ℤ_right_comm (v.x i) (pos u.s) (pos (10 ^ k)) ∙ same ∙ *ℤ_right_comm (u.x i) (pos (10 ^ k)) (pos v.s))
 
 -- the estimates leave at most the printed residual
 residuals_of : (n : ℕ) (t w : Table) (e : ℕ → ℤ) (x0 : ℕ → Decimal) (y : ℕ → ℤ) (r : ℕ → ℕ) → AreInRange n e → CarriesSystems n t w e

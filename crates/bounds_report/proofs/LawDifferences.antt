@@ -1,5 +1,5 @@
 -- The differences of the printed estimates from the a priori values: the words that hold them, and their fractions over one denominator.
-use Rattle.std.proofs.Common.{◌≡◌, ◌*◌, ◌^◌, ◌≤◌, ◌<◌, ◌∙◌, ℕ, zero, suc, ℤ, pos, ◌+ℤ◌, ◌*ℤ◌, unsigned_abs, Bool, true, false, cond, eqb, arith, refl, sym, ap, subst}
+use Rattle.std.proofs.Common.{◌≡◌, ◌*◌, ◌^◌, ◌≤◌, ◌<◌, ◌∙◌, ℕ, zero, suc, ℤ, pos, ◌+ℤ◌, ◌*ℤ◌, unsigned_abs, Bool, true, false, arith, refl, sym, ap, subst}
 use Rattle.std.specs.Prelude.{nat_le, if◌then◌else◌}
 use Rattle.std.proofs.Math.IntN.{◌-ℤ◌}
 use Rattle.std.proofs.Math.Nat.{mul-pos}
@@ -9,18 +9,20 @@ use Rattle.std.proofs.lemmas.Bool.Decides.{nat_tests}
 use Rattle.whole_numbers.specs.Words.{Word, Holds, size, point_word, word_sub}
 use Rattle.whole_numbers.proofs.EqualFractions.{holds_same, holds_difference_of}
 use Rattle.whole_numbers.proofs.Powers as Powers
-use Rattle.whole_numbers.proofs.Ring.{ring, *ℤ_assoc}
+use Rattle.whole_numbers.proofs.Ring.{ring, *ℤ_assoc, *ℤ_right_comm}
 use Rattle.whole_numbers.proofs.WordLaws.{holds_point}
 use Rattle.decimal_e.specs.Decimals.{Decimal}
 use Rattle.decimal_e.specs.Fractions.{numerator, denominator}
 use Rattle.decimal_e.specs.Scales.{decimal_word}
+use Rattle.decimal_e.proofs.Values.{ten_below_some}
 use Rattle.sys_model.specs.Systems.{Fractions}
+use Rattle.sys_model.proofs.Exist.{with_last, at_last, at_other}
 use Rattle.equil.specs.Exponents.{IsInRange}
 use Rattle.equil.specs.Scaled.{ten_power}
 use Rattle.bounds_report.specs.Bounds.{AreDifferences}
 use Rattle.bounds_report.specs.Printing.{difference, estimate_of, working_difference}
 use Rattle.bounds_report.specs.declared.numbers.Printed.{Printed}
-use Rattle.bounds_report.proofs.LawWords.{ten_below_some, holds_to_power, decimal_word_holds}
+use Rattle.bounds_report.proofs.LawWords.{holds_to_power, decimal_word_holds}
 
 -- how far the estimate is from x0, over 10^16 times the denominator of x0
 abbrev pub away : Decimal → ℤ → ℤ
@@ -69,11 +71,8 @@ difference_holds x0 v =
 
 -- the same fraction over another denominator
 moved_over : (z x : ℤ) (d t s k : ℕ) → x *ℤ pos (d * t) ≡ z *ℤ pos s → (z *ℤ pos k) *ℤ pos s ≡ (x *ℤ pos (t * k)) *ℤ pos d
-moved_over z x d t s k h = swapped z (pos k) (pos s) ∙ ap (λ y. y *ℤ pos k) (sym h) ∙ regrouped x (pos d) (pos t) (pos k)
+moved_over z x d t s k h = *ℤ_right_comm z (pos k) (pos s) ∙ ap (λ y. y *ℤ pos k) (sym h) ∙ regrouped x (pos d) (pos t) (pos k)
   where
-    swapped : (z k s : ℤ) → (z *ℤ k) *ℤ s ≡ (z *ℤ s) *ℤ k
-    swapped z k s = simp ring
-
     regrouped : (x d t k : ℤ) → (x *ℤ (d *ℤ t)) *ℤ k ≡ (x *ℤ (t *ℤ k)) *ℤ d
     regrouped x d t k = simp ring
 
@@ -87,16 +86,6 @@ working_holds x0 e y x s range some h =
     (holds_same (difference x0 v) (away x0 v *ℤ pos (10 ^ 4)) (x *ℤ pos (10 ^ 20)) d s (ten_below_some x0.exp) (moved_over (away x0 v) x d (10 ^ 16) s (10 ^ 4) h) (difference_holds x0 v))
 
 -- ---- one denominator
--- a number of its own at the last of n + 1 indices
-abbrev with_last : ℕ → ℤ → (ℕ → ℤ) → ℕ → ℤ
-with_last n a f i = cond (eqb i n) a (f i)
-
-at_last : (n : ℕ) (a : ℤ) (f : ℕ → ℤ) (i : ℕ) → i ≡ n → with_last n a f i ≡ a
-at_last n a f i e = grind (arith, nat_tests)
-
-at_other : (n : ℕ) (a : ℤ) (f : ℕ → ℤ) (i : ℕ) → i < n → with_last n a f i ≡ f i
-at_other n a f i l = grind (arith, nat_tests)
-
 -- the fractions a_i / d_i of the i below n, over one denominator
 record HasOneDenominator (n : ℕ) (a : ℕ → ℤ) (d : ℕ → ℕ) : Type 0 where
   pub v : Fractions
@@ -114,12 +103,12 @@ over_one (suc n) a d some =
     let r = over_one n a d some in
     let f = λ (i : ℕ). r.v.x i *ℤ pos (d n) in
     record {
-      v = record { s = r.v.s * d n; x = with_last n (a n *ℤ pos r.v.s) f };
+      v = record { s = r.v.s * d n; x = with_last n f (a n *ℤ pos r.v.s) };
       some = mul-pos r.some (some n);
       rows = λ i l. elim (ℕ_discrete i n) [
-        | yes e ↦ ap (λ z. z *ℤ pos (d i)) (at_last n (a n *ℤ pos r.v.s) f i e) ∙ ap (λ k. (a n *ℤ pos r.v.s) *ℤ pos (d k)) e ∙ *ℤ_assoc (a n) (pos r.v.s) (pos (d n)) ∙ ap (λ k. a k *ℤ pos (r.v.s * d n)) (sym e)
+        | yes e ↦ ap (λ z. z *ℤ pos (d i)) (ap (with_last n f (a n *ℤ pos r.v.s)) e ∙ at_last n f (a n *ℤ pos r.v.s)) ∙ ap (λ k. (a n *ℤ pos r.v.s) *ℤ pos (d k)) e ∙ *ℤ_assoc (a n) (pos r.v.s) (pos (d n)) ∙ ap (λ k. a k *ℤ pos (r.v.s * d n)) (sym e)
         | no e ↦ let below : i < n = omega arith in
-            ap (λ z. z *ℤ pos (d i)) (at_other n (a n *ℤ pos r.v.s) f i below) ∙ times_more (r.v.x i) (a i) (d i) r.v.s (d n) (r.rows i below)
+            ap (λ z. z *ℤ pos (d i)) (at_other n f (a n *ℤ pos r.v.s) i below) ∙ times_more (r.v.x i) (a i) (d i) r.v.s (d n) (r.rows i below)
       ];
     }
 

@@ -1,14 +1,14 @@
 -- What is left of the right side, of a system that is scaled: by 10^18 for the stack words, and row by row for the working words.
-use Rattle.std.proofs.Common.{◌≡◌, ◌+◌, ◌*◌, ◌^◌, ◌<◌, ◌∙◌, ℕ, ℤ, pos, ◌+ℤ◌, ◌*ℤ◌, neg_ℤ, ◌≤ℤ◌, unsigned_abs, arith, sym, ap}
+use Rattle.std.proofs.Common.{◌≡◌, ◌^◌, ◌<◌, ◌∙◌, ℕ, ℤ, pos, ◌+ℤ◌, ◌*ℤ◌, neg_ℤ, arith, ap}
 use Rattle.std.proofs.Math.IntN.{◌-ℤ◌}
 use Rattle.std.proofs.lemmas.Int.{ints}
-use Rattle.std.proofs.lemmas.Nat.{pow-add}
 use Rattle.whole_numbers.specs.Sum.{sum_to}
 use Rattle.whole_numbers.proofs.Ring.{ring}
 use Rattle.whole_numbers.proofs.Sums.{sum_to_same, sum_to-*ℤ}
 use Rattle.sys_model.specs.Systems.{System, Fractions, Solves, residual}
 use Rattle.equil.specs.Exponents.{IsInRange}
 use Rattle.equil.specs.Scaled.{ten_power, scaled_system, working_numbers}
+use Rattle.equil.proofs.ScaledLaws.{ten_powers, product_apart}
 use Rattle.bounds_report.specs.Bounds.{stack_system}
 
 -- each term and the right side times r
@@ -29,14 +29,6 @@ pub stack_solves : (n : ℕ) (S : System) (v : Fractions) → Solves n S v → S
 stack_solves n S v sol = record { some = sol.some; rows = λ i l. stack_residual n S v i ∙ ap (λ z. pos (10 ^ 18) *ℤ z) (sol.rows i l) ∙ omega (arith, ints) }
 
 -- ---- in the units of the working words
-ten_powers : (u v r : ℤ) → pos 0 ≤ℤ u → pos 0 ≤ℤ v → u +ℤ v ≡ r → ten_power u * ten_power v ≡ ten_power r
-ten_powers u v r h g e =
-    let s : unsigned_abs u + unsigned_abs v ≡ unsigned_abs r = omega (arith, ints) in
-    sym (pow-add 10 (unsigned_abs u) (unsigned_abs v)) ∙ ap (λ m. 10 ^ m) s
-
-product_apart : (a x : ℤ) (p q r : ℕ) → p * q ≡ r → (a *ℤ pos p) *ℤ (x *ℤ pos q) ≡ pos r *ℤ (a *ℤ x)
-product_apart a x p q r e = (let g : (a *ℤ pos p) *ℤ (x *ℤ pos q) ≡ (pos p *ℤ pos q) *ℤ (a *ℤ x) = simp ring in g) ∙ ap (λ z. pos z *ℤ (a *ℤ x)) e
-
 -- the power of ten of row i
 abbrev pub row_power : ℤ → ℕ
 row_power e = ten_power (pos 22 +ℤ (pos 12 -ℤ e))

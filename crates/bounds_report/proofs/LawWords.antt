@@ -13,14 +13,9 @@ use Rattle.whole_numbers.proofs.Scaled.{holds_raised, holds_lowered}
 use Rattle.decimal_e.specs.Decimals.{Decimal, ten_above, ten_below}
 use Rattle.decimal_e.specs.Fractions.{numerator, denominator}
 use Rattle.decimal_e.specs.Scales.{decimal_word}
-use Rattle.decimal_e.proofs.Values.{holds_word, same_shift}
+use Rattle.decimal_e.proofs.Values.{holds_word, same_shift, ten_below_some}
 
 -- ---- powers of ten with a sign
--- what stands below the line is above 0
-pub ten_below_some : (k : ℤ) → 0 < ten_below k
-ten_below_some (pos n) = omega arith
-ten_below_some (negsuc n) = Powers.ten_above (suc n)
-
 -- 10^k = 10^u / 10^v where k = u - v
 pub ten_apart : (k : ℤ) (u v : ℕ) → k ≡ pos u -ℤ pos v → ten_above k * 10 ^ v ≡ 10 ^ u * ten_below k
 ten_apart (pos n) u v e = let s : u ≡ n + v = omega (arith, ints) in let p = ap (λ z. 10 ^ z) s ∙ pow-add 10 n v in omega (arith, p)

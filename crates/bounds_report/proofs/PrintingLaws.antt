@@ -2,7 +2,7 @@
 use Rattle.std.proofs.Common.{◌≡◌, ℕ, ℤ, pos, ◌<◌, List, length, ap, ◌∙◌}
 use Rattle.std.proofs.Math.IntN.{◌-ℤ◌}
 use Rattle.whole_numbers.specs.Words.{Word, size, word_sub, word_mul, sum_words}
-use Rattle.whole_numbers.proofs.Sums.{sum_to_same}
+use Rattle.whole_numbers.proofs.WordLaws.{sum_words_same}
 use Rattle.sys_model.specs.Systems.{Table}
 use Rattle.bounds_report.specs.Differences.{difference_of, word_at, AreDifferencesOf}
 use Rattle.bounds_report.specs.Ends.{AreEnds, ends_of}
@@ -11,12 +11,6 @@ use Rattle.bounds_report.specs.Residuals.{row_sum, residual_size, numbers_from, 
 use Rattle.bounds_report.specs.Rows.{RowLists, exponent_at, apriori_at, vector_at, radius_at}
 use Rattle.bounds_report.specs.declared.ends.Ends.{Ends}
 use Rattle.bounds_report.specs.declared.numbers.Printed.{Printed}
-
-sum_words_same : (n : ℕ) (f g : ℕ → Word) → ((k : ℕ) → k < n → f k ≡ g k) → sum_words n f ≡ sum_words n g
-sum_words_same n f g h =
-    let lo = sum_to_same n (λ k. (f k).lo) (λ k. (g k).lo) (λ k l. ap (λ w. w.lo) (h k l)) in
-    let hi = sum_to_same n (λ k. (f k).hi) (λ k. (g k).hi) (λ k l. ap (λ w. w.hi) (h k l)) in
-    cc
 
 -- a list with the differences of the rows makes of a row of a table what they make of it
 sum_is : (n : ℕ) (t : Table) (r : RowLists) (zs : List Word) (i : ℕ) → AreDifferencesOf n r zs → row_sum n t zs i ≡ sum_words n (λ j. word_mul (t.entry i j) (difference_of r j))

@@ -1,26 +1,15 @@
 -- How large the products of a row with the differences are, and their sums.
-use Rattle.std.proofs.Common.{◌≡◌, ℕ, zero, suc, ◌+ℤ◌, ◌+◌, ◌*◌, ◌^◌, ◌≤◌, ◌<◌, List, FitsSigned, refl, add-one, arith}
+use Rattle.std.proofs.Common.{◌≡◌, ℕ, ◌+ℤ◌, ◌+◌, ◌*◌, ◌^◌, ◌≤◌, ◌<◌, List, FitsSigned, refl, add-one, arith}
 use Rattle.std.specs.Int.{w128}
-use Rattle.std.proofs.Math.Decide.{dec_le}
-use Rattle.std.proofs.Math.Nat.{mul-le-mul, mul-le-mul_right}
+use Rattle.std.proofs.Math.Nat.{mul-le-mul_right}
 use Rattle.std.proofs.lemmas.Int.{ints}
 use Rattle.whole_numbers.specs.Sum.{total_to}
 use Rattle.whole_numbers.specs.Words.{Word, size, word_add, word_mul}
-use Rattle.whole_numbers.proofs.Sums.{le-total_to}
+use Rattle.whole_numbers.proofs.Sizes.{product_le}
+use Rattle.whole_numbers.proofs.Sums.{le-total_to, total_part}
 use Rattle.sys_model.specs.Systems.{Table}
 use Rattle.bounds_report.specs.Differences.{word_at}
 use Rattle.bounds_report.specs.Residuals.{AreSmallWords, row_sum}
-
-total_part : (n : ℕ) (f : ℕ → ℕ) (k : ℕ) → k ≤ n → total_to k f ≤ total_to n f
-total_part zero f k h = let e : k ≡ 0 = omega arith in rw e (omega arith)
-total_part (suc n) f k h =
-    elim (dec_le k n) [
-      | yes l ↦ omega (arith, total_part n f k l)
-      | no l ↦ let e : k ≡ suc n = omega arith in rw e (omega arith)
-    ]
-
-product_le : (x a y b : ℕ) → x ≤ a → y ≤ b → x * y ≤ a * b
-product_le x a y b h l = mul-le-mul h l
 
 -- a product of a word of the table and a difference
 pub term_fits : (n j : ℕ) (zs : List Word) (a z : Word) → AreSmallWords n zs → j < n → size a ≤ 2 ^ 61 → z ≡ word_at zs j → size a * size z ≤ 2 ^ 126

@@ -1,15 +1,14 @@
 -- How large the words of the a priori value and the terms of the estimate are.
-use Rattle.std.proofs.Common.{◌≡◌, ℕ, suc, ℤ, pos, negsuc, ◌+ℤ◌, ◌*ℤ◌, ◌≤ℤ◌, ◌+◌, ◌-◌, ◌*◌, ◌^◌, ◌≤◌, ◌<◌, unsigned_abs, arith, sym, ap, ◌∙◌}
-use Rattle.std.proofs.Math.Nat.{mul-le-mul, mul-le-mul_left, mul-le-mul_right}
+use Rattle.std.proofs.Common.{◌≡◌, ℕ, suc, ℤ, pos, negsuc, ◌+ℤ◌, ◌*ℤ◌, ◌≤ℤ◌, ◌+◌, ◌-◌, ◌*◌, ◌^◌, ◌≤◌, unsigned_abs, arith, sym, ap, ◌∙◌}
+use Rattle.std.proofs.Math.Nat.{mul-le-mul, mul-le-mul_right}
 use Rattle.std.proofs.Math.Decide.{dec_le}
 use Rattle.std.proofs.lemmas.Nat.{pow-add}
 use Rattle.std.proofs.lemmas.Int.{ints, to_z-of_z, unsigned_abs-mul}
 use Rattle.whole_numbers.specs.Words.{size}
 use Rattle.whole_numbers.specs.Scaling.{floor_scaled, ceil_scaled}
-use Rattle.whole_numbers.specs.Quotients.{floor_over}
 use Rattle.whole_numbers.proofs.Powers.{ten_le, ten_above}
 use Rattle.whole_numbers.proofs.Scaled.{floor_scaled_le_ceil}
-use Rattle.whole_numbers.proofs.Sizes.{floor_small, ceil_small}
+use Rattle.whole_numbers.proofs.Sizes.{floor_small, ceil_small, quotient_small}
 use Rattle.decimal_e.specs.Decimals.{Decimal, ten_above as ten_over, ten_below}
 use Rattle.decimal_e.specs.Fractions.{IsAtMost}
 use Rattle.decimal_e.specs.Scales.{decimal_word}
@@ -81,10 +80,6 @@ ends_ordered m k = floor_scaled_le_ceil m m k (omega (arith, ints))
 pub ruleset word_rules = (to_z-of_z, ends_ordered, apriori_small)
 
 -- ---- the estimate in units of 10^-16
--- a quotient is no greater than what is divided
-quotient_small : (z : ℤ) (m : ℕ) → 0 < m → unsigned_abs (floor_over z m) ≤ unsigned_abs z
-quotient_small z m h = let t = mul-le-mul_left (unsigned_abs z) h in floor_small z m (unsigned_abs z) h (omega (arith, t))
-
 raised_small : (y : ℤ) (k : ℕ) → unsigned_abs y ≤ 2 ^ 64 → k ≤ 13 → unsigned_abs (y *ℤ pos (10 ^ k)) ≤ 2 ^ 64 * 10 ^ 13
 raised_small y k h l =
     let p = mul-le-mul h (ten_le k 13 l) in

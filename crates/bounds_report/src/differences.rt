@@ -2,7 +2,6 @@
 
 ghost use Rattle.std.specs.Prelude.{◌≡◌, ◌≤◌, ◌<◌, ◌^◌, ℤ, pos, ◌-ℤ◌, ◌*ℤ◌, nat_le, unsigned_abs, SomeIff, IfOk, IfErr};
 ghost use Rattle.whole_numbers.specs.Words.{size, point_word, word_sub};
-ghost use Rattle.whole_numbers.specs.Scaling.{word_scale10};
 ghost use Rattle.decimal_e.specs.Fractions.{IsAtMost};
 ghost use Rattle.bounds_report.specs.Differences.{difference_of, AreDifferencesOf, IsFirstFarRow};
 ghost use Rattle.bounds_report.specs.Ends.{AreEnds, ends_of, IfRange};
@@ -52,19 +51,6 @@ fn distance(x0: &Dec, estimate: i128) -> Iv
     }
 }
 
-/// The word times 10^k, rounded outward, and None exactly where it is greater than the limit in size.
-fn scaled_within(w: &Iv, k: i32, limit: u128) -> Option<Iv>
-    requires { limit ≤ 10 ^ 37 }
-    ensures { SomeIff result (size (word_scale10 w.now k) ≤ limit) (word_scale10 w.now k) }
-{
-    let scaled = w.scale10(k)?;
-    if scaled.mag() <= limit {
-        Some(scaled)
-    } else {
-        None
-    }
-}
-
 /// The power of ten from 10^20 to the working unit of a row.
 fn working_power(rows: &Rows, i: usize) -> i32
     requires { i < row_count rows.now }
@@ -81,11 +67,7 @@ fn difference_within(rows: &Rows, i: usize, estimate: i128, limit: u128) -> Opti
     requires most { limit ≤ 10 ^ 37 }
     ensures { SomeIff result (size (difference_of rows.now i) ≤ limit) (difference_of rows.now i) }
 {
-    scaled_within(
-        &distance(&rows.apriori(i), estimate),
-        working_power(rows, i),
-        limit,
-    )
+    distance(&rows.apriori(i), estimate).scale10_within(working_power(rows, i), limit)
 }
 
 /// The estimate of a row.

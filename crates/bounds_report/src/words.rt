@@ -16,7 +16,7 @@ pub fn word_difference(a: &Iv, b: &Iv) -> Iv
 }
 
 /// The products of a number of the first and one of the second.
-#[tactic(auto, using(crate::proofs::WordSizes::product_size))]
+#[tactic(auto, using(whole_numbers::proofs::Sizes::product_size))]
 pub fn word_product(a: &Iv, b: &Iv) -> Iv
     requires { size a.now * size b.now ≤ 2 ^ 126 }
     ensures value { result ≡ word_mul a.now b.now }

@@ -4,6 +4,7 @@ use Rattle.std.proofs.Math.IntN.{◌-ℤ◌}
 use Rattle.std.proofs.Math.Decide.{dec_lt}
 use Rattle.std.proofs.Math.Nat.{mul-le-mul}
 use Rattle.std.proofs.lemmas.Int.{ints, by_lt_z}
+use Rattle.whole_numbers.proofs.Cases.{neither_less}
 use Rattle.whole_numbers.proofs.Sums.{sum_to_same}
 use Rattle.chol_factor.specs.Factor.{part, ratio, left_of, IsRoot, IsColumn, HasColumns, IsPivot}
 use Rattle.chol_factor.specs.Making.{AgreeBefore}
@@ -64,4 +65,4 @@ pub pivot_alone : (n : ℕ) (m : ℕ → ℕ → ℤ) (j k : ℕ) → IsPivot n 
 pivot_alone n m j k p q =
     let low : j < k → ⊥ = λ h. no_pivot_below n m q.before.0 j k q.before.1 p h in
     let high : k < j → ⊥ = λ h. no_pivot_below n m p.before.0 k j p.before.1 q h in
-    elim (dec_lt j k) [ yes l ↦ absurd (low l) | no l ↦ elim (dec_lt k j) [ yes r ↦ absurd (high r) | no r ↦ omega arith ] ]
+    neither_less j k low high

@@ -1,11 +1,12 @@
 -- A column in the making, word by word, and the columns one by one.
-use Rattle.std.proofs.Common.{◌≡◌, ◌≤◌, ◌<◌, ◌+◌, ◌*◌, ◌^◌, ◌∙◌, ◌⊎◌, inl, inr, ℕ, zero, suc, ℤ, pos, negsuc, ◌*ℤ◌, ◌≤ℤ◌, unsigned_abs, List, length, sym, ap, subst, arith}
+use Rattle.std.proofs.Common.{◌≡◌, ◌≤◌, ◌<◌, ◌+◌, ◌*◌, ◌^◌, ◌∙◌, inl, inr, ℕ, zero, suc, ℤ, pos, negsuc, ◌*ℤ◌, ◌≤ℤ◌, unsigned_abs, List, length, sym, ap, subst, arith}
 use Rattle.std.specs.Int.{IsIsqrt}
 use Rattle.std.proofs.Math.Decide.{dec_lt}
 use Rattle.std.proofs.Math.Nat.{mul-le-mul}
 use Rattle.std.proofs.lemmas.Int.{ints}
 use Rattle.whole_numbers.specs.Sum.{sum_to}
 use Rattle.whole_numbers.proofs.Sums.{sum_to_same}
+use Rattle.whole_numbers.proofs.Cases.{last_or_before}
 use Rattle.chol_factor.specs.Factor.{FactorTable, factor_word, part, ratio, left_of, IsRoot, IsColumn, HasColumns, IsPivot}
 use Rattle.chol_factor.specs.Making.{SetsWord, AgreeBefore, IsDiagonal, IsBounded, IsStuck}
 use Rattle.chol_factor.specs.Squares.{at}
@@ -50,9 +51,6 @@ agree_set n o f g i j v size kept s a b column lower row = kept a b column lower
 
 pub agree_self : (n : ℕ) (f g : FactorTable) (i j : ℕ) (v : ℤ) → n ≤ f.size → SetsWord f g i j v → AgreeBefore n (factor_word f) (factor_word g) j
 agree_self n f g i j v size s a b column lower row = sym (s.others a b (omega arith) (omega arith) (λ e. let p = e.1 in absurd (omega arith)))
-
-last_or_before : (k j : ℕ) → k < j + 1 → (k < j) ⊎ (k ≡ j)
-last_or_before k j h = elim (dec_lt k j) [ yes p ↦ inl p | no p ↦ inr (omega arith) ]
 
 pub column_started : (m : ℕ → ℕ → ℤ) (f g : FactorTable) (j : ℕ) (r : ℤ) → j < f.size → IsDiagonal (left_of m (factor_word f) j j) r → SetsWord f g j j r → IsColumn (j + 1) m (factor_word g) j
 column_started m f g j r row d s =

@@ -1,9 +1,14 @@
-//! The sums that the factor and the columns are made of.
+//! The sums and quotients that the factor and the columns are made of.
 
-ghost use Rattle.std.specs.Prelude.{◌≡◌, ◌≤◌, ◌<◌, ◌*◌, ◌^◌, ℕ, ℤ, length, unsigned_abs};
+ghost use Rattle.std.specs.Prelude.{◌≡◌, ◌≤◌, ◌<◌, ◌*◌, ◌^◌, ℕ, ℤ, pos, ◌≤ℤ◌, length, unsigned_abs};
 ghost use Rattle.whole_numbers.specs.Sum.{sum_to};
-ghost use Rattle.chol_factor.specs.Factor.{part};
+ghost use Rattle.chol_factor.specs.Factor.{part, ratio};
 ghost use Rattle.chol_factor.specs.Squares.{at, AllAtMost};
+
+use whole_numbers::{floor_div, product};
+
+/// The number 1 in units of 2^-60.
+const ONE: i128 = 1 << 60;
 
 /// The product of two numbers over 2^60, rounded down.
 fn part(a: i64, b: i64) -> i128
@@ -29,4 +34,13 @@ pub fn parts(a: &[i64], b: &[i64]) -> i128
         sum += part(a[k], b[k]);
     }
     sum
+}
+
+/// The quotient of a number by one above 0, times 2^60 and rounded down.
+pub fn ratio(a: i128, b: i64) -> i128
+    requires left { unsigned_abs a ≤ 2 ^ 66 }
+    requires right { pos 1 ≤ℤ b }
+    ensures { result ≡ ratio a b }
+{
+    floor_div(product(a, ONE), i128::from(b))
 }

@@ -8,11 +8,11 @@ ghost use Rattle.chol_factor.specs.Making.{AgreeBefore, IsDiagonal, IsBounded, I
 ghost use Rattle.chol_factor.specs.Refusals.{IsFactorRefused};
 
 use crate::FactorError;
-use crate::kernels::parts;
+use crate::kernels::{parts, ratio};
 use crate::tables::{Factor, Square};
 use equil::Working;
 use std::alloc::Global;
-use whole_numbers::{floor_div, product};
+use whole_numbers::product;
 
 /// The number 1 in units of 2^-60.
 const UNIT: i128 = 1 << 60;
@@ -69,7 +69,7 @@ fn quotient(t: i128, root: i64) -> Option<i64>
     if t.unsigned_abs() > LIMIT {
         return None;
     }
-    let word = floor_div(product(t, UNIT), i128::from(root));
+    let word = ratio(t, root);
     if word.unsigned_abs() > LIMIT {
         return None;
     }

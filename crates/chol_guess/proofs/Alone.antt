@@ -1,6 +1,6 @@
 -- What determines the columns of an inverse: two columns of one factor at one scale are one, and a row that fails its
 -- bounds is one of no column.
-use Rattle.std.proofs.Common.{◌≡◌, ◌≤◌, ◌<◌, ◌+◌, ◌-◌, ◌^◌, ◌∙◌, ℕ, zero, suc, ℤ, pos, ◌-ℤ◌, arith, refl, sym, ap, subst, unsigned_abs}
+use Rattle.std.proofs.Common.{◌≡◌, ◌≤◌, ◌<◌, ◌+◌, ◌-◌, ◌^◌, ◌∙◌, ℕ, zero, suc, ℤ, pos, ◌*ℤ◌, ◌-ℤ◌, arith, refl, sym, ap, subst, unsigned_abs}
 use Rattle.std.proofs.Math.Decide.{dec_lt}
 use Rattle.whole_numbers.specs.Sum.{unit}
 use Rattle.whole_numbers.proofs.Sums.{sum_to_same}
@@ -23,8 +23,11 @@ same_lower n f i k row lower = refl
 pub same_below : (n : ℕ) (u : ℕ → ℤ) → SameBelow n u u
 same_below n u k h = refl
 
-minus_same : (a b x y : ℤ) → a ≡ b → x ≡ y → a -ℤ x ≡ b -ℤ y
+pub minus_same : (a b x y : ℤ) → a ≡ b → x ≡ y → a -ℤ x ≡ b -ℤ y
 minus_same a b x y e d = cc
+
+pub product_same : (a b x y : ℤ) → a ≡ b → x ≡ y → a *ℤ x ≡ b *ℤ y
+product_same a b x y e d = cc
 
 -- ---- going up
 pub up_left_same : (f h : ℕ → ℕ → ℤ) (g c : ℕ) (u v : ℕ → ℤ) (n i : ℕ) → i < n → SameLower n f h → SameBelow i u v → up_left f g c u i ≡ up_left h g c v i
@@ -207,6 +210,3 @@ condition_alone n m c d a b =
     let low : ¬ (c < d) = λ h. a.here (stay_same n b.f a.f 0 (suc c) (factors_same n m b.f a.f b.factor a.factor) (λ k l. b.before k (omega arith))) in
     let high : ¬ (d < c) = λ h. b.here (stay_same n a.f b.f 0 (suc d) (factors_same n m a.f b.f a.factor b.factor) (λ k l. a.before k (omega arith))) in
     omega arith
-
-pub condition_no_pivot : (n : ℕ) (m : ℕ → ℕ → ℤ) (c row : ℕ) → IsCondition n m c → ¬ (IsPivot n m row)
-condition_no_pivot n m c row a pivot = no_pivot_below n m a.f row n a.factor pivot pivot.within

@@ -7,8 +7,8 @@ ghost use Rattle.chol_factor.specs.Squares.{at};
 ghost use Rattle.chol_guess.specs.Columns.{up_left, down_left, IsUp, IsDown, IsInverseColumn};
 ghost use Rattle.chol_guess.specs.Rows.{IsTransposed, QuotientFits, IsUpBefore, IsDownStart, IsDownAfter};
 
-use crate::kernels::{ratio, wide_parts};
-use chol_factor::{Factor, parts};
+use crate::kernels::wide_parts;
+use chol_factor::{Factor, parts, ratio};
 
 /// The greatest size of what is left of a row.
 const LEFT_LIMIT: u128 = 1 << 66;

@@ -1,14 +1,9 @@
-//! The sums and quotients that the columns are made of.
+//! The sums that the columns are made of.
 
-ghost use Rattle.std.specs.Prelude.{◌≡◌, ◌≤◌, ◌*◌, ◌^◌, ℤ, pos, ◌≤ℤ◌, length, unsigned_abs};
+ghost use Rattle.std.specs.Prelude.{◌≡◌, ◌≤◌, ◌*◌, ◌^◌, ℤ, length, unsigned_abs};
 ghost use Rattle.whole_numbers.specs.Sum.{sum_to};
-ghost use Rattle.chol_factor.specs.Factor.{part, ratio};
+ghost use Rattle.chol_factor.specs.Factor.{part};
 ghost use Rattle.chol_factor.specs.Squares.{at, AllAtMost};
-
-use whole_numbers::{floor_div, product};
-
-/// The unit of the factor and of the columns.
-const ONE: i128 = 1 << 60;
 
 /// The product of two numbers over 2^60, rounded down.
 fn wide_part(a: i64, u: i128) -> i128
@@ -34,13 +29,4 @@ pub fn wide_parts(a: &[i64], u: &[i128]) -> i128
         sum += wide_part(a[k], u[k]);
     }
     sum
-}
-
-/// The quotient of a number by one above 0, times 2^60 and rounded down.
-pub fn ratio(a: i128, b: i64) -> i128
-    requires left { unsigned_abs a ≤ 2 ^ 66 }
-    requires right { pos 1 ≤ℤ b }
-    ensures { result ≡ ratio a b }
-{
-    floor_div(product(a, ONE), i128::from(b))
 }

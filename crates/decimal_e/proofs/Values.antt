@@ -1,5 +1,5 @@
 -- Decimals of one value.
-use Rattle.std.proofs.Common.{◌≡◌, ◌≢◌, ℕ, zero, suc, ℤ, pos, negsuc, ◌+ℤ◌, ◌*ℤ◌, neg_ℤ, ◌≤ℤ◌, ◌+◌, ◌*◌, ◌/◌, ◌%◌, ◌≤◌, ◌<◌, ◌^◌, unsigned_abs, refl, ap, sym, ◌∙◌, ◌⊎◌, inl, inr, arith, subst}
+use Rattle.std.proofs.Common.{◌≡◌, ◌≢◌, ℕ, zero, suc, ℤ, pos, negsuc, ◌+ℤ◌, ◌*ℤ◌, neg_ℤ, ◌≤ℤ◌, ◌+◌, ◌*◌, ◌/◌, ◌%◌, ◌≤◌, ◌<◌, ◌^◌, unsigned_abs, refl, ap, sym, ◌∙◌, inl, inr, arith, subst}
 use Rattle.std.proofs.lemmas.Int.{ints, unsigned_abs-mul, by_lt_z}
 use Rattle.std.proofs.lemmas.Nat.{pow-add}
 use Rattle.std.proofs.Math.IntN.{◌-ℤ◌}
@@ -7,8 +7,10 @@ use Rattle.std.proofs.Math.Nat.{mul-pos}
 use Rattle.std.proofs.Math.Decide.{ℕ_discrete}
 use Rattle.whole_numbers.specs.Scaling.{floor_scaled, ceil_scaled}
 use Rattle.whole_numbers.specs.Words.{Holds}
+use Rattle.whole_numbers.proofs.Cases.{zero_or_not}
+use Rattle.whole_numbers.proofs.EqualFractions.{same_from_product}
 use Rattle.whole_numbers.proofs.Powers.{ten_above as ten_some}
-use Rattle.whole_numbers.proofs.Ring.{ring, *ℤ_assoc, le_from_product, neg-*ℤ}
+use Rattle.whole_numbers.proofs.Ring.{ring, *ℤ_assoc, neg-*ℤ}
 use Rattle.whole_numbers.proofs.WordLaws.{floor_over_le, le-ceil_over}
 use Rattle.decimal_e.specs.Decimals.{Decimal, ten_above, ten_below, SameValue, IsCanonical, IsCanonicalOf, IsBounded, signed_like}
 use Rattle.decimal_e.specs.Scales.{decimal_word}
@@ -18,9 +20,9 @@ above_some : (e : ℤ) → 0 < ten_above e
 above_some (pos k) = ten_some k
 above_some (negsuc k) = omega arith
 
-below_some : (e : ℤ) → 0 < ten_below e
-below_some (pos k) = omega arith
-below_some (negsuc k) = ten_some (suc k)
+pub ten_below_some : (e : ℤ) → 0 < ten_below e
+ten_below_some (pos k) = omega arith
+ten_below_some (negsuc k) = ten_some (suc k)
 
 -- 10^k * 10^e = 10^f for f = e + k
 ten_shift : (e f : ℤ) (k : ℕ) → f ≡ e +ℤ pos k → 10 ^ k * (ten_above e * ten_below f) ≡ ten_above f * ten_below e
@@ -36,17 +38,11 @@ same_shift m e f k h = record { same = ap (λ x. m *ℤ pos x) (sym (ten_shift e
 pub same_sym : (a b : Decimal) → SameValue a b → SameValue b a
 same_sym a b s = record { same = sym s.same }
 
-cancel : (a b : ℤ) (k : ℕ) → 0 < k → a *ℤ pos k ≡ b *ℤ pos k → a ≡ b
-cancel a b k h e =
-    let l = le_from_product a b k h (omega (arith, ints)) in
-    let g = le_from_product b a k h (omega (arith, ints)) in
-    omega (arith, ints)
-
 -- of two decimals with one value, that with the less exponent has the more zeros
 lifted : (a b : Decimal) (k : ℕ) → b.exp ≡ a.exp +ℤ pos k → SameValue a b → a.mant ≡ b.mant *ℤ pos (10 ^ k)
 lifted a b k h s =
-    let some = mul-pos (above_some a.exp) (below_some b.exp) in
-    cancel a.mant (b.mant *ℤ pos (10 ^ k)) (ten_above a.exp * ten_below b.exp) some
+    let some = mul-pos (above_some a.exp) (ten_below_some b.exp) in
+    same_from_product a.mant (b.mant *ℤ pos (10 ^ k)) (ten_above a.exp * ten_below b.exp) some
     (s.same ∙ ap (λ x. b.mant *ℤ pos x) (sym (ten_shift a.exp b.exp k h)) ∙ sym (*ℤ_assoc b.mant (pos (10 ^ k)) (pos (ten_above a.exp * ten_below b.exp))))
 
 ends_in_zero : (x k : ℕ) → (x * 10 ^ suc k) % 10 ≡ 0
@@ -57,11 +53,6 @@ decimal_by a b m e =
     let made : ℤ → ℤ → Decimal = λ x y. record { mant = x; exp = y } in
     ap (λ x. made x a.exp) m ∙ ap (λ y. made b.mant y) e
 
-zero_or_not : (z : ℤ) → (z ≡ pos 0) ⊎ (z ≢ pos 0)
-zero_or_not (pos zero) = inl refl
-zero_or_not (pos (suc n)) = inr (λ e. omega (arith, ints))
-zero_or_not (negsuc n) = inr (λ e. omega (arith, ints))
-
 one_canonical_by : (a b : Decimal) (k : ℕ) → b.exp ≡ a.exp +ℤ pos k → IsCanonical a → IsCanonical b → SameValue a b → a ≡ b
 one_canonical_by a b zero h p q s = decimal_by a b (let l = lifted a b zero h s in omega (arith, ints)) (omega (arith, ints))
 one_canonical_by a b (suc k) h p q s =
@@ -69,7 +60,7 @@ one_canonical_by a b (suc k) h p q s =
     let size : unsigned_abs a.mant ≡ unsigned_abs b.mant * 10 ^ suc k = ap unsigned_abs l ∙ unsigned_abs-mul b.mant (pos (10 ^ suc k)) in
     elim (zero_or_not a.mant) [
       | inl z ↦
-          let y : b.mant ≡ pos 0 = cancel b.mant (pos 0) (10 ^ suc k) (ten_some (suc k)) (sym l ∙ z ∙ omega (arith, ints)) in
+          let y : b.mant ≡ pos 0 = same_from_product b.mant (pos 0) (10 ^ suc k) (ten_some (suc k)) (sym l ∙ z ∙ omega (arith, ints)) in
           decimal_by a b (z ∙ sym y) (p.zero z ∙ sym (q.zero y))
       | inr z ↦ absurd (p.other z (ap (λ x. x % 10) size ∙ ends_in_zero (unsigned_abs b.mant) k))
     ]
@@ -100,7 +91,7 @@ pub same_trans : (a b c : Decimal) → SameValue a b → SameValue b c → SameV
 same_trans a b c p q =
     let s = ap (λ x. x *ℤ pos (ten_below c.exp)) p.same in
     let t = ap (λ x. x *ℤ pos (ten_below a.exp)) q.same in
-    record { same = cancel (a.mant *ℤ (pos (ten_above a.exp) *ℤ pos (ten_below c.exp))) (c.mant *ℤ (pos (ten_above c.exp) *ℤ pos (ten_below a.exp))) (ten_below b.exp) (below_some b.exp) (crossed a.mant b.mant c.mant (pos (ten_above a.exp)) (pos (ten_below a.exp)) (pos (ten_above b.exp)) (pos (ten_below b.exp)) (pos (ten_above c.exp)) (pos (ten_below c.exp)) p.same q.same) }
+    record { same = same_from_product (a.mant *ℤ (pos (ten_above a.exp) *ℤ pos (ten_below c.exp))) (c.mant *ℤ (pos (ten_above c.exp) *ℤ pos (ten_below a.exp))) (ten_below b.exp) (ten_below_some b.exp) (crossed a.mant b.mant c.mant (pos (ten_above a.exp)) (pos (ten_below a.exp)) (pos (ten_above b.exp)) (pos (ten_below b.exp)) (pos (ten_above c.exp)) (pos (ten_below c.exp)) p.same q.same) }
   where
     crossed : (m n o aa ab ba bb ca cb : ℤ) → m *ℤ (aa *ℤ bb) ≡ n *ℤ (ba *ℤ ab) → n *ℤ (ba *ℤ cb) ≡ o *ℤ (ca *ℤ bb) → (m *ℤ (aa *ℤ cb)) *ℤ bb ≡ (o *ℤ (ca *ℤ ab)) *ℤ bb
     crossed m n o aa ab ba bb ca cb p q =

@@ -1,37 +1,22 @@
 -- The certificate is determined by the table, its pilot and the vector, and so is where it does not pass. It passes nowhere
 -- where it does not.
-use Rattle.std.proofs.Common.{◌≡◌, ◌≤◌, ◌<◌, ◌+◌, ◌-◌, ◌*◌, ◌^◌, ◌∙◌, ℕ, zero, suc, ℤ, pos, arith, refl, sym, ap, subst, min, slice_index_or}
-use Rattle.std.proofs.Math.Decide.{dec_lt}
-use Rattle.whole_numbers.specs.Sum.{unit}
+use Rattle.std.proofs.Common.{◌≡◌, ◌≤◌, ◌<◌, ◌+◌, ◌-◌, ◌*◌, ◌^◌, ◌∙◌, ℕ, ℤ, arith, sym, ap, subst, slice_index_or}
 use Rattle.whole_numbers.specs.Quotients.{up_over}
-use Rattle.whole_numbers.specs.Words.{Word, size, point_word, word_sub, word_scale, word_shift, sum_words}
-use Rattle.whole_numbers.proofs.Sums.{sum_to_same}
-use Rattle.sys_model.specs.Systems.{Table, defect_word, defect_size, row_parts, left_word, row_error, rho}
+use Rattle.whole_numbers.specs.Words.{Word, size, word_sub, word_scale, word_shift}
+use Rattle.whole_numbers.proofs.Cases.{neither_less}
+use Rattle.whole_numbers.proofs.WordLaws.{sum_words_same}
+use Rattle.sys_model.specs.Systems.{Table, row_parts, left_word, row_error, rho}
 use Rattle.chol_guess.specs.Pilots.{PilotTable, pilot_word}
 use Rattle.chol_guess.proofs.Alone.{SameBelow}
 use Rattle.chol_guess.proofs.AlonePilots.{SameSquare}
-use Rattle.enclosure_check.specs.Least.{IsLeast, greatest_to}
+use Rattle.enclosure_check.specs.Least.{IsLeast}
 use Rattle.enclosure_check.specs.Certificates.{LeftFitsAfter, parts_of, error_of, IsCertified, IsResidual, IsDefect}
 use Rattle.enclosure_check.specs.declared.Radius.{Radius}
-use Rattle.enclosure_check.proofs.AloneVectors.{SameTable, SamePilot, flipped_below, flipped_table, flipped_pilot, neither_less, least_alone, total_to_same}
+use Rattle.enclosure_check.proofs.AloneVectors.{SameTable, SamePilot, flipped_below, flipped_table, flipped_pilot, least_alone}
+use Rattle.enclosure_check.proofs.CertificateLaws.{greatest_to_same, le-greatest_to}
+use Rattle.enclosure_check.proofs.DefectLaws.{row_parts_same}
 
 -- ---- equal words
-abbrev word_from : ℤ → ℤ → Word
-word_from a b = record { lo = a; hi = b }
-
-pub word_same : (w v : Word) → w.lo ≡ v.lo → w.hi ≡ v.hi → w ≡ v
-word_same w v e d = ap (λ a. word_from a w.hi) e ∙ ap (λ b. word_from v.lo b) d
-
-abbrev low_of : Word → ℤ
-low_of w = w.lo
-
-abbrev high_of : Word → ℤ
-high_of w = w.hi
-
-pub sum_words_same : (n : ℕ) (f g : ℕ → Word) → ((k : ℕ) → k < n → f k ≡ g k) → sum_words n f ≡ sum_words n g
-sum_words_same n f g h =
-    word_same _ _ (sum_to_same n (λ k. (f k).lo) (λ k. (g k).lo) (λ k l. ap low_of (h k l))) (sum_to_same n (λ k. (f k).hi) (λ k. (g k).hi) (λ k l. ap high_of (h k l)))
-
 scale_same : (a b : ℤ) (w v : Word) → a ≡ b → w ≡ v → word_scale a w ≡ word_scale b v
 scale_same a b w v e d = cc
 
@@ -40,10 +25,7 @@ sub_same w v x y e d = ap (λ a. word_sub a x) e ∙ ap (λ b. word_sub v b) d
 
 -- ---- equal defects
 parts_same_words : (n g : ℕ) (r s : ℕ → ℕ → ℤ) (t u : Table) (i : ℕ) → SameSquare n r s → SameTable n t u → i < n → row_parts n g r t i ≡ row_parts n g s u i
-parts_same_words n g r s t u i words table row =
-    let defects : (j : ℕ) → j < n → defect_word n (2 ^ (g + 60)) r t i j ≡ defect_word n (2 ^ (g + 60)) s u i j =
-    λ j l. ap (λ w. word_sub (point_word (unit i (pos (2 ^ (g + 60))) j)) w) (sum_words_same n (λ k. word_scale (r i k) (t.entry k j)) (λ k. word_scale (s i k) (u.entry k j)) (λ k h. scale_same _ _ _ _ (words i k row h) (table.entries k j h l))) in
-    ap (λ a. up_over a (2 ^ (g + 30))) (total_to_same n (λ j. min (defect_size n (2 ^ (g + 60)) r t i j) (2 ^ (g + 60))) (λ j. min (defect_size n (2 ^ (g + 60)) s u i j) (2 ^ (g + 60))) (λ j l. ap (λ w. min (size w) (2 ^ (g + 60))) (defects j l)))
+parts_same_words n g r s t u i words table row = row_parts_same n g i r s t u (λ k l. words i k row l) table.entries
 
 pub parts_same : (n : ℕ) (t u : Table) (p q : PilotTable) (i : ℕ) → SameTable n t u → SamePilot n p q → i < n → parts_of n t p i ≡ parts_of n u q i
 parts_same n t u p q i table pilot row =
@@ -75,25 +57,10 @@ error_same n t u p q y z h k i table pilot same shift row =
     ∙ ap (λ x. row_error n q.g x (pilot_word q) u z i) shift
 
 -- ---- the greatest value
-pub greatest_same : (n : ℕ) (f g : ℕ → ℕ) → ((k : ℕ) → k < n → f k ≡ g k) → greatest_to n f ≡ greatest_to n g
-greatest_same zero f g h = refl
-greatest_same (suc n) f g h =
-    let here = h n (omega arith) in
-    let below = greatest_same n f g (λ k l. h k (omega arith)) in
-    cc
-
-pub le-greatest : (n : ℕ) (f : ℕ → ℕ) (k : ℕ) → k < n → f k ≤ greatest_to n f
-le-greatest zero f k l = absurd (omega arith)
-le-greatest (suc n) f k l =
-    elim (dec_lt k n) [
-      | yes r ↦ omega (arith, le-greatest n f k r)
-      | no r ↦ let e : k ≡ n = omega arith in omega (arith, ap f e)
-    ]
-
 -- ---- one certificate or one refusal, with equal tables, pilots and vectors
 module _ (n : ℕ) (t u : Table) (p q : PilotTable) (y z : ℕ → ℤ) (table : SameTable n t u) (pilot : SamePilot n p q) (same : SameBelow n y z) where
   pub certified_parts : (v w : Radius) → IsCertified n t p y v → IsCertified n u q z w → v.b ≡ w.b
-  certified_parts v w a b = a.parts ∙ greatest_same n (parts_of n t p) (parts_of n u q) (λ i row. parts_same n t u p q i table pilot row) ∙ sym b.parts
+  certified_parts v w a b = a.parts ∙ greatest_to_same n (parts_of n t p) (parts_of n u q) (λ i row. parts_same n t u p q i table pilot row) ∙ sym b.parts
 
   pub certified_shift : (v w : Radius) (a : IsCertified n t p y v) (b : IsCertified n u q z w) → a.h ≡ b.h
   certified_shift v w a b = shift_alone n t u y z a.h b.h table same a.shift b.shift
@@ -101,7 +68,7 @@ module _ (n : ℕ) (t u : Table) (p q : PilotTable) (y z : ℕ → ℤ) (table :
   pub certified_error : (v w : Radius) → IsCertified n t p y v → IsCertified n u q z w → v.m ≡ w.m
   certified_error v w a b =
       let shift = certified_shift v w a b in
-      a.error ∙ greatest_same n (error_of n t p y a.h) (error_of n u q z b.h) (λ i row. error_same n t u p q y z a.h b.h i table pilot same shift row) ∙ sym b.error
+      a.error ∙ greatest_to_same n (error_of n t p y a.h) (error_of n u q z b.h) (λ i row. error_same n t u p q y z a.h b.h i table pilot same shift row) ∙ sym b.error
 
   radius_parts : (e d b c m k x o : ℕ) → e ≡ d → b ≡ c → x ≡ o → m ≡ k → e + up_over (x * rho b m) (2 ^ 30) ≡ d + up_over (o * rho c k) (2 ^ 30)
   radius_parts e d b c m k x o f g h l = cc
@@ -117,12 +84,12 @@ module _ (n : ℕ) (t u : Table) (p q : PilotTable) (y z : ℕ → ℤ) (table :
   certified_no_residual v row error a b =
       let shift = shift_alone n t u y z a.h b.h table same a.shift b.shift in
       let e = error_same n t u p q y z a.h b.h row table pilot same shift b.within in
-      let l = le-greatest n (error_of n t p y a.h) row b.within in
+      let l = le-greatest_to n (error_of n t p y a.h) row b.within in
       omega (arith, e, l, a.error, a.error_fits, b.here, b.past)
 
   pub certified_no_defect : (v : Radius) (row parts : ℕ) → IsCertified n t p y v → IsDefect n u q z row parts → ⊥
   certified_no_defect v row parts a b =
-      let e = greatest_same n (parts_of n t p) (parts_of n u q) (λ i row. parts_same n t u p q i table pilot row) in
+      let e = greatest_to_same n (parts_of n t p) (parts_of n u q) (λ i row. parts_same n t u p q i table pilot row) in
       omega (arith, e, a.parts, a.parts_fit, b.greatest, b.past)
 
   pub residual_no_defect : (row error col parts : ℕ) → IsResidual n t p y row error → IsDefect n u q z col parts → ⊥
@@ -157,7 +124,7 @@ module _ (n : ℕ) (t u : Table) (p q : PilotTable) (y z : ℕ → ℤ) (table :
       a.here ∙ e ∙ ap (error_of n u q z b.h) (residual_row row error col other a b) ∙ sym b.here
 
   pub defect_parts : (row parts col other : ℕ) → IsDefect n t p y row parts → IsDefect n u q z col other → parts ≡ other
-  defect_parts row parts col other a b = a.greatest ∙ greatest_same n (parts_of n t p) (parts_of n u q) (λ i row. parts_same n t u p q i table pilot row) ∙ sym b.greatest
+  defect_parts row parts col other a b = a.greatest ∙ greatest_to_same n (parts_of n t p) (parts_of n u q) (λ i row. parts_same n t u p q i table pilot row) ∙ sym b.greatest
 
   pub defect_row : (row parts col other : ℕ) → IsDefect n t p y row parts → IsDefect n u q z col other → row ≡ col
   defect_row row parts col other a b =

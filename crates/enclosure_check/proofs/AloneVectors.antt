@@ -1,15 +1,14 @@
 -- The start vector is determined by the table and its pilot, and so is the first row at which the sizes pass their bound.
 -- No vector is a start vector where there is such a row.
 use Rattle.std.proofs.Common.{◌≡◌, ◌≤◌, ◌<◌, ◌+◌, ◌-◌, ◌^◌, ◌∙◌, ℕ, zero, suc, ℤ, ◌+ℤ◌, ◌*ℤ◌, arith, refl, sym, ap, subst, unsigned_abs}
-use Rattle.std.proofs.Math.IntN.{◌-ℤ◌}
 use Rattle.std.proofs.Math.Decide.{dec_lt}
-use Rattle.whole_numbers.specs.Sum.{total_to}
 use Rattle.whole_numbers.specs.Quotients.{floor_over}
-use Rattle.whole_numbers.proofs.Sums.{sum_to_same}
+use Rattle.whole_numbers.proofs.Cases.{neither_less}
+use Rattle.whole_numbers.proofs.Sums.{sum_to_same, total_part, total_to_same}
 use Rattle.sys_model.specs.Systems.{Table}
 use Rattle.chol_factor.specs.Factor.{middle}
 use Rattle.chol_guess.specs.Pilots.{PilotTable, pilot_word}
-use Rattle.chol_guess.proofs.Alone.{SameBelow}
+use Rattle.chol_guess.proofs.Alone.{SameBelow, minus_same, product_same}
 use Rattle.enclosure_check.specs.Least.{IsLeast}
 use Rattle.enclosure_check.specs.Vectors.{middle_left, AllFitAfter, moved, IsTurn, IsSmall, AfterTurns, IsStartVector, IsVectorRange}
 
@@ -32,35 +31,10 @@ pub flipped_pilot : (n : ℕ) (p q : PilotTable) → SamePilot n p q → SamePil
 flipped_pilot n p q same = record { g = sym same.g; words = λ i k row column. sym (same.words i k row column) }
 
 -- ---- least numbers and totals
--- two numbers are one where neither is below the other
-pub neither_less : (j k : ℕ) → (j < k → ⊥) → (k < j → ⊥) → j ≡ k
-neither_less j k a b = elim (dec_lt j k) [ yes l ↦ absurd (a l) | no l ↦ elim (dec_lt k j) [ yes r ↦ absurd (b r) | no r ↦ omega arith ] ]
-
 pub least_alone : (P Q : ℕ → Type 0) (h k : ℕ) → ((x : ℕ) → P x → Q x) → ((x : ℕ) → Q x → P x) → IsLeast P h → IsLeast Q k → h ≡ k
 least_alone P Q h k to from p q = neither_less h k (λ l. q.before h l (to h p.here)) (λ l. p.before k l (from k q.here))
 
-pub total_to_same : (n : ℕ) (f g : ℕ → ℕ) → ((k : ℕ) → k < n → f k ≡ g k) → total_to n f ≡ total_to n g
-total_to_same zero f g h = refl
-total_to_same (suc n) f g h =
-    let here = h n (omega arith) in
-    let below = total_to_same n f g (λ k l. h k (omega arith)) in
-    cc
-
-pub total_to_fewer : (m n : ℕ) (f : ℕ → ℕ) → m ≤ n → total_to m f ≤ total_to n f
-total_to_fewer m zero f l = let e : zero ≡ m = omega arith in subst (λ k. total_to k f ≤ 0) e (omega arith)
-total_to_fewer m (suc n) f l =
-    elim (dec_lt n m) [
-      | yes r ↦ let e : suc n ≡ m = omega arith in subst (λ k. total_to k f ≤ total_to (suc n) f) e (omega arith)
-      | no r ↦ omega (arith, total_to_fewer m n f (omega arith))
-    ]
-
 -- ---- one turn
-pub product_same : (a b x y : ℤ) → a ≡ b → x ≡ y → a *ℤ x ≡ b *ℤ y
-product_same a b x y e d = cc
-
-minus_same : (a b x y : ℤ) → a ≡ b → x ≡ y → a -ℤ x ≡ b -ℤ y
-minus_same a b x y e d = cc
-
 middle_left_same : (n : ℕ) (t u : Table) (y z : ℕ → ℤ) → SameTable n t u → SameBelow n y z → SameBelow n (middle_left n t y) (middle_left n u z)
 middle_left_same n t u y z table same i row =
     minus_same _ _ _ _ (ap middle (table.rights i row))
@@ -100,7 +74,7 @@ small_carries : (n : ℕ) (y z : ℕ → ℤ) → SameBelow n y z → IsSmall n 
 small_carries n y z same small = subst (λ s. s ≤ 2 ^ 64) (total_to_same n _ _ (λ i row. ap unsigned_abs (same i row))) small
 
 small_fewer : (m n : ℕ) (y : ℕ → ℤ) → m ≤ n → IsSmall n y → IsSmall m y
-small_fewer m n y l small = omega (arith, total_to_fewer m n (λ i. unsigned_abs (y i)) l)
+small_fewer m n y l small = omega (arith, total_part n (λ i. unsigned_abs (y i)) m l)
 
 -- the vector after an earlier turn is small
 earlier_small : (k m n : ℕ) (t : Table) (p : PilotTable) (y : ℕ → ℤ) → k < m → AfterTurns n t p m y → (x : ℕ → ℤ) × (AfterTurns n t p k x × IsSmall n x)

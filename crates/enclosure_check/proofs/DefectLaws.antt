@@ -7,10 +7,10 @@ use Rattle.std.proofs.lemmas.Grind.{div_ceil_times}
 use Rattle.std.proofs.Math.Nat.{mul-le-mul_right, le_of_mul-le-mul_left}
 use Rattle.whole_numbers.specs.Quotients.{up_over}
 use Rattle.whole_numbers.specs.Words.{Word, size, word_add, word_scale}
-use Rattle.whole_numbers.proofs.Sizes.{size_scale}
+use Rattle.whole_numbers.proofs.Sizes.{size_scale, size_sum_by}
 use Rattle.whole_numbers.specs.Sum.{total_to}
-use Rattle.whole_numbers.proofs.Sums.{total_to-bound}
-use Rattle.whole_numbers.proofs.WordLaws.{two_pow_above}
+use Rattle.whole_numbers.proofs.Sums.{total_to_same, total_to-bound}
+use Rattle.whole_numbers.proofs.WordLaws.{sum_words_same, two_pow_above}
 use Rattle.sys_model.specs.Systems.{Table, row_parts}
 use Rattle.sys_model.proofs.Enclose.{pow_split}
 use Rattle.sym_blocks.specs.Tables.{SymTable, word}
@@ -20,7 +20,7 @@ use Rattle.chol_factor.specs.Squares.{at, AllAtMost}
 use Rattle.chol_guess.specs.Pilots.{PilotTable, pilot_word}
 use Rattle.enclosure_check.specs.Certificates.{parts_of}
 use Rattle.enclosure_check.specs.Defects.{word_between, products_to, clipped_left, turned_table, AreRows, HasWords}
-use Rattle.enclosure_check.proofs.ErrorLaws.{size_sum_by, step_fits, sum_words_same}
+use Rattle.enclosure_check.proofs.ErrorLaws.{step_fits}
 
 -- the numbers and the words below n are in their bounds
 pub record InBounds (n : ℕ) (r : ℕ → ℤ) (f : ℕ → Word) : Type 0 where
@@ -76,10 +76,6 @@ column_in_bounds n a r j few len numbers words column = record { few = few; numb
 pub products_same : (n : ℕ) (r s : ℕ → ℤ) (f h : ℕ → Word) → ((k : ℕ) → k < n → r k ≡ s k) → ((k : ℕ) → k < n → f k ≡ h k) → products_to n r f ≡ products_to n s h
 products_same n r s f h e d =
     sum_words_same n (λ k. word_scale (r k) (f k)) (λ k. word_scale (s k) (h k)) (λ k l. ap (λ z. word_scale z (f k)) (e k l) ∙ ap (word_scale (s k)) (d k l))
-
-total_to_same : (n : ℕ) (f h : ℕ → ℕ) → ((k : ℕ) → k < n → f k ≡ h k) → total_to n f ≡ total_to n h
-total_to_same zero f h e = refl
-total_to_same (suc n) f h e = omega (arith, e n (omega arith), total_to_same n f h (λ k l. e k (omega arith)))
 
 pub row_parts_same : (n g i : ℕ) (r s : ℕ → ℕ → ℤ) (t u : Table) → ((k : ℕ) → k < n → r i k ≡ s i k) → ((k j : ℕ) → k < n → j < n → t.entry k j ≡ u.entry k j) → row_parts n g r t i ≡ row_parts n g s u i
 row_parts_same n g i r s t u e d =

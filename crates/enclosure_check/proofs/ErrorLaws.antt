@@ -1,15 +1,12 @@
 -- How large the words are that a vector leaves of the right side, and those that the pilot makes of them.
-use Rattle.std.proofs.Common.{◌≡◌, ℕ, zero, suc, ℤ, ◌+ℤ◌, ◌+◌, ◌-◌, ◌*◌, ◌≤◌, ◌<◌, ◌^◌, unsigned_abs, FitsSigned, arith, add-one, List, length, ap, refl, sym, subst, ◌∙◌}
+use Rattle.std.proofs.Common.{◌≡◌, ℕ, ℤ, ◌+ℤ◌, ◌+◌, ◌-◌, ◌*◌, ◌≤◌, ◌<◌, ◌^◌, unsigned_abs, FitsSigned, arith, add-one, List, length, ap, refl, sym, subst, ◌∙◌}
 use Rattle.std.specs.Int.{w128}
 use Rattle.std.proofs.lemmas.Int.{fits_signed_from_abs}
-use Rattle.std.proofs.Math.Nat.{mul-le-mul, pow-le-pow_right}
-use Rattle.std.proofs.Math.Decide.{dec_le}
-use Rattle.whole_numbers.specs.Sum.{total_to}
 use Rattle.whole_numbers.specs.Quotients.{up_over}
 use Rattle.whole_numbers.specs.Words.{Word, size, word_add, word_scale, word_shift, sum_words}
-use Rattle.whole_numbers.proofs.Sizes.{size_scale}
-use Rattle.whole_numbers.proofs.Sums.{sum_to_same, abs-sum_to, total_to_le, total_to-*, total_to-bound, le-total_to}
-use Rattle.whole_numbers.proofs.WordLaws.{two_pow_above}
+use Rattle.whole_numbers.proofs.Sizes.{product_le, size_scale, size_sum_by}
+use Rattle.whole_numbers.proofs.Sums.{total_part, total_to_le, total_to-*, total_to-bound, le-total_to}
+use Rattle.whole_numbers.proofs.WordLaws.{sum_words_same}
 use Rattle.sym_blocks.specs.Tables.{SymTable, word}
 use Rattle.chol_factor.specs.Squares.{at}
 use Rattle.sys_model.specs.Systems.{Table, left_word}
@@ -18,26 +15,7 @@ use Rattle.enclosure_check.specs.Least.{IsLeast}
 use Rattle.enclosure_check.specs.Certificates.{AreErrors, LeftFitsAfter}
 use Rattle.enclosure_check.specs.ErrorParts.{IsVector, IsRowByWords, AreLeft, AreShifted, AreShiftedLeft, AreShiftedErrors, FitAfter, taken_word, part_word, shifted_error, word_at}
 
-pub product_le : (x a y b : ℕ) → x ≤ a → y ≤ b → x * y ≤ a * b
-product_le x a y b h l = mul-le-mul h l
-
--- the total of the first i numbers is within that of all n
-pub total_part : (n : ℕ) (f : ℕ → ℕ) (i : ℕ) → i ≤ n → total_to i f ≤ total_to n f
-total_part zero f i h = let e : i ≡ 0 = omega arith in rw e (omega arith)
-total_part (suc n) f i h =
-    elim (dec_le i n) [
-      | yes l ↦ omega (arith, total_part n f i l)
-      | no l ↦ let e : i ≡ suc n = omega arith in rw e (omega arith)
-    ]
-
 -- ---- sums of words
--- a sum is no greater than its words in sum
-pub size_sum_by : (n : ℕ) (f : ℕ → Word) → size (sum_words n f) ≤ total_to n (λ k. size (f k))
-size_sum_by n f =
-    let p = total_to_le n (λ k. unsigned_abs (f k).lo) (λ k. size (f k)) (λ k l. omega arith) in
-    let q = total_to_le n (λ k. unsigned_abs (f k).hi) (λ k. size (f k)) (λ k l. omega arith) in
-    omega (arith, abs-sum_to n (λ k. (f k).lo), abs-sum_to n (λ k. (f k).hi), p, q)
-
 ends_fit : (w : Word) → size w ≤ 2 ^ 126 → FitsSigned w128 w.lo × FitsSigned w128 w.hi
 ends_fit w h = (fits_signed_from_abs w128 w.lo (omega arith), fits_signed_from_abs w128 w.hi (omega arith))
 
@@ -83,17 +61,7 @@ parts_small r ws m s most =
     let b = total_to-bound m (λ k. size (part_word r ws k)) (2 ^ 50 * 2 ^ 66) (λ k d. size_scale (at r k) (word_at ws k) (2 ^ 50) (2 ^ 66) (s.row_small k (omega (arith, s.len))) (s.words_small k (omega arith))) in
     omega (arith, t, b, s.few)
 
-pub two_pow_le : (k : ℕ) → k ≤ 110 → (0 < 2 ^ k) × (2 ^ k ≤ 2 ^ 110)
-two_pow_le k h = (two_pow_above k, pow-le-pow_right {n = 2} (omega arith) h)
-
 -- ---- the error of a row
--- sums of the same words are the same
-pub sum_words_same : (n : ℕ) (f g : ℕ → Word) → ((k : ℕ) → k < n → f k ≡ g k) → sum_words n f ≡ sum_words n g
-sum_words_same n f g h =
-    let lo = sum_to_same n (λ k. (f k).lo) (λ k. (g k).lo) (λ k l. ap (λ w. w.lo) (h k l)) in
-    let hi = sum_to_same n (λ k. (f k).hi) (λ k. (g k).hi) (λ k l. ap (λ w. w.hi) (h k l)) in
-    rw (lo, hi) refl
-
 -- what the code computes is the error
 pub row_error_is : (p : PilotTable) (r : List ℤ) (ws : List Word) (h i m t : ℕ) (b : Word) → length ws ≡ p.size → ((k : ℕ) → k < p.size → at r k ≡ pilot_word p i k)
     → b ≡ sum_words (length ws) (part_word r ws) → m ≡ size b → t ≡ 2 ^ (p.g + 60 - h) → up_over m t ≡ shifted_error p ws h i

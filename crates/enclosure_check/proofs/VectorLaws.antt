@@ -1,14 +1,13 @@
 -- How large the numbers of a turn are, and where turns lead.
 use Rattle.std.proofs.Common.{◌≡◌, ◌≤◌, ◌<◌, ◌+◌, ◌-◌, ◌*◌, ◌^◌, ◌∙◌, ℕ, suc, ℤ, pos, ◌+ℤ◌, ◌*ℤ◌, unsigned_abs, FitsSigned, List, length, replicate, add-one, refl, sym, ap, subst, arith}
 use Rattle.std.specs.Int.{w128}
-use Rattle.std.proofs.Math.Nat.{mul-le-mul_left}
 use Rattle.std.proofs.lemmas.Int.{ints, fits_signed_from_abs, unsigned_abs-mul}
 use Rattle.std.proofs.lemmas.List.{get_or-replicate, length-replicate}
 use Rattle.whole_numbers.specs.Quotients.{floor_over}
-use Rattle.whole_numbers.specs.Sum.{sum_to, total_to}
+use Rattle.whole_numbers.specs.Sum.{sum_to}
 use Rattle.whole_numbers.specs.Words.{Word, size}
-use Rattle.whole_numbers.proofs.Sizes.{floor_small}
-use Rattle.whole_numbers.proofs.Sums.{sum_to_same, abs-sum_to, abs-dot, total_to_le, total_to-*, total_to-bound, le-total_to}
+use Rattle.whole_numbers.proofs.Sizes.{floor_small, product_le, quotient_small}
+use Rattle.whole_numbers.proofs.Sums.{sum_to_same, abs-sum_to, abs-dot, total_part, total_to_le, total_to_same, total_to-*, total_to-bound, le-total_to}
 use Rattle.whole_numbers.proofs.WordLaws.{two_pow_above}
 use Rattle.sym_blocks.specs.Tables.{SymTable, word}
 use Rattle.sys_model.specs.Systems.{Table}
@@ -22,15 +21,11 @@ use Rattle.enclosure_check.specs.VectorParts.{taken_middle, part_number, change_
 use Rattle.enclosure_check.specs.declared.VectorError.{VectorError}
 use Rattle.enclosure_check.specs.declared.VectorError.TheVariants.{Range, Memory}
 use Rattle.enclosure_check.specs.Vectors.{IsSmall, IsTurn, AfterTurns, IsStartVector, AllFitAfter, middle_left, moved}
-use Rattle.enclosure_check.proofs.ErrorLaws.{AreSmallWords, product_le, total_part, least_same}
+use Rattle.enclosure_check.proofs.ErrorLaws.{AreSmallWords, least_same}
 
 -- the middle is no greater than the word
 pub middle_small : (w : Word) (m : ℕ) → size w ≤ m → unsigned_abs (middle w) ≤ m
 middle_small w m h = floor_small (w.lo +ℤ w.hi) 2 m (omega arith) (omega (arith, ints))
-
--- a quotient is no greater than what is divided
-pub quotient_small : (z : ℤ) (m : ℕ) → 0 < m → unsigned_abs (floor_over z m) ≤ unsigned_abs z
-quotient_small z m h = let t = mul-le-mul_left (unsigned_abs z) h in floor_small z m (unsigned_abs z) h (omega (arith, t))
 
 -- ---- sums
 -- a sum with one more term fits, and is the longer sum
@@ -84,14 +79,7 @@ change_is p r vs h i g b v len row is scale floor =
     floor ∙ ap (λ x. floor_over x (2 ^ (g + 60 - h))) sum ∙ ap (λ s. floor_over (sum_to p.size (λ k. pilot_word p i k *ℤ at vs k)) (2 ^ (s + 60 - h))) scale
 
 -- ---- one turn
--- totals of the same numbers are the same
-pub total_to_same : (n : ℕ) (f g : ℕ → ℕ) → ((k : ℕ) → k < n → f k ≡ g k) → total_to n f ≡ total_to n g
-total_to_same n f g h =
-    let up = total_to_le n f g (λ k l. omega (arith, h k l)) in
-    let down = total_to_le n g f (λ k l. omega (arith, h k l)) in
-    omega (arith, up, down)
-
--- and as small
+-- small numbers stay small where they are the same
 small_same : (n : ℕ) (f g : ℕ → ℤ) → ((k : ℕ) → k < n → f k ≡ g k) → IsSmall n f → IsSmall n g
 small_same n f g h s = omega (arith, s, total_to_same n (λ k. unsigned_abs (f k)) (λ k. unsigned_abs (g k)) (λ k l. ap unsigned_abs (h k l)))
 

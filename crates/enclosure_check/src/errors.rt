@@ -136,7 +136,7 @@ fn row_by_words(row: &[i64], words: &[Iv]) -> Iv
 }
 
 /// The power 2^k.
-#[tactic(auto, using(crate::proofs::ErrorLaws::two_pow_le))]
+#[tactic(auto, using(whole_numbers::proofs::Division::two_pow_le))]
 fn two_to(k: u32) -> u128
     requires { k ≤ 110 }
     ensures value { result ≡ 2 ^ k }

@@ -5,6 +5,7 @@ use Rattle.std.proofs.Math.Nat.{pow-le-pow_right, mul-le-mul_left, mul-le-mul_ri
 use Rattle.std.proofs.lemmas.Grind.{pow_more, div_ceil_times}
 use Rattle.std.proofs.lemmas.Int.{ints}
 use Rattle.whole_numbers.specs.Quotients.{up_over}
+use Rattle.whole_numbers.proofs.Cases.{neither_less}
 use Rattle.equil.specs.Exponents.{IsNearTop, IsExponent}
 
 hundred_le : (a b : ℕ) → a ≤ b → 100 ^ a ≤ 100 ^ b
@@ -99,14 +100,11 @@ apart_sides h k l above below =
     let q = mul-le-mul_left h (hundred_le 1 (suc l) (omega arith)) in
     omega (arith, p, q)
 
-one_of_three : (k l : ℕ) → (k < l → ⊥) → (l < k → ⊥) → k ≡ l
-one_of_three k l a b = elim (dec_lt k l) [ yes p ↦ absurd (a p) | no p ↦ elim (dec_lt l k) [ yes q ↦ absurd (b q) | no q ↦ omega arith ] ]
-
 near_top_one : (h : ℕ) (e f : ℤ) → IsNearTop h e → IsNearTop h f → e ≡ f
-near_top_one h (pos k) (pos l) p q = ap pos (one_of_three k l (λ lt. apart_up h k l lt q.0 p.1) (λ lt. apart_up h l k lt p.0 q.1))
+near_top_one h (pos k) (pos l) p q = ap pos (neither_less k l (λ lt. apart_up h k l lt q.0 p.1) (λ lt. apart_up h l k lt p.0 q.1))
 near_top_one h (pos k) (negsuc l) p q = absurd (apart_sides h k l p.0 q.1)
 near_top_one h (negsuc k) (pos l) p q = absurd (apart_sides h l k q.0 p.1)
-near_top_one h (negsuc k) (negsuc l) p q = ap negsuc (one_of_three k l (λ lt. apart_down h (suc k) (suc l) (omega arith) p.0 q.1) (λ lt. apart_down h (suc l) (suc k) (omega arith) q.0 p.1))
+near_top_one h (negsuc k) (negsuc l) p q = ap negsuc (neither_less k l (λ lt. apart_down h (suc k) (suc l) (omega arith) p.0 q.1) (λ lt. apart_down h (suc l) (suc k) (omega arith) q.0 p.1))
 
 pub exponent_one : (hi e f : ℤ) → IsExponent hi e → IsExponent hi f → e ≡ f
 exponent_one (pos zero) e f p q = p ∙ sym q

@@ -4,6 +4,7 @@ use Rattle.std.proofs.Math.Decide.{dec_lt}
 use Rattle.std.proofs.lemmas.List.{get_or_push, get_or_append_left, length_push}
 use Rattle.whole_numbers.specs.Words.{Word, size}
 use Rattle.whole_numbers.specs.Scaling.{word_scale10}
+use Rattle.whole_numbers.proofs.Cases.{last_or_before}
 use Rattle.sym_blocks.specs.Tables.{SymTable, word, IsPair}
 use Rattle.equil.specs.Exponents.{IsInRange}
 use Rattle.equil.specs.Rows.{AllInRange, AreScaled, IsRowScaled, KeepsRows}
@@ -25,9 +26,6 @@ not_pair_left i j l h g (inr p) = omega (arith, p)
 pub kept_step : (i j : ℕ) (w : Word) (o a b : SymTable) → i < a.size → IsSet i j w a b → KeepsRows i o a → KeepsRows i o b
 kept_step i j w o a b row s kept k l h g = s.others k l (omega arith) (omega arith) (not_pair_before i j k l h g) ∙ kept k l h g
 
-last_or_left : (l j : ℕ) → l < j + 1 → (l < j) ⊎ (l ≡ j)
-last_or_left l j h = elim (dec_lt l j) [ yes p ↦ inl p | no p ↦ inr (omega arith) ]
-
 last_word : (i j l : ℕ) (w : Word) (a b : SymTable) (t : ℕ → ℕ → Word) (e : ℕ → ℤ) → i < a.size → j ≤ i → IsSet i j w a b → IsRowScaled i j a t e → w ≡ working_entry t e i j → (l < j) ⊎ (l ≡ j) → word b i l ≡ working_entry t e i l
 last_word i j l w a b t e row lower s d is (inl h) = s.others i l row (omega arith) (not_pair_left i j l lower h) ∙ d.words l h
 last_word i j l w a b t e row lower s d is (inr h) = s.here i l (inl (refl, h)) ∙ is ∙ ap (working_entry t e i) (sym h)
@@ -38,8 +36,8 @@ last_fits i j l a t e d fits (inr h) = subst (EntryFits t e i) (sym h) fits
 
 pub row_step : (i j : ℕ) (w : Word) (a b : SymTable) (t : ℕ → ℕ → Word) (e : ℕ → ℤ) → i < a.size → j ≤ i → IsSet i j w a b → IsRowScaled i j a t e → w ≡ working_entry t e i j → EntryFits t e i j → IsRowScaled i (j + 1) b t e
 row_step i j w a b t e row lower s d is fits = record {
-  words = λ l h. last_word i j l w a b t e row lower s d is (last_or_left l j h);
-  fit = λ l h. last_fits i j l a t e d fits (last_or_left l j h);
+  words = λ l h. last_word i j l w a b t e row lower s d is (last_or_before l j h);
+  fit = λ l h. last_fits i j l a t e d fits (last_or_before l j h);
 }
 
 next_word : (n k l : ℕ) (a b : SymTable) (t : ℕ → ℕ → Word) (e : ℕ → ℤ) → AreScaled n a t e → KeepsRows n a b → IsRowScaled n (n + 1) b t e → l ≤ k → (k < n) ⊎ (k ≡ n) → word b k l ≡ working_entry t e k l
@@ -52,8 +50,8 @@ next_fits n k l a b t e d r h (inr p) = subst (λ m. EntryFits t e m l) (sym p) 
 
 pub rows_step : (n : ℕ) (a b : SymTable) (t : ℕ → ℕ → Word) (e : ℕ → ℤ) → AreScaled n a t e → KeepsRows n a b → IsRowScaled n (n + 1) b t e → AreScaled (n + 1) b t e
 rows_step n a b t e d kept r = record {
-  words = λ k l p h. next_word n k l a b t e d kept r h (last_or_left k n p);
-  fit = λ k l p h. next_fits n k l a b t e d r h (last_or_left k n p);
+  words = λ k l p h. next_word n k l a b t e d kept r h (last_or_before k n p);
+  fit = λ k l p h. next_fits n k l a b t e d r h (last_or_before k n p);
 }
 
 -- ---- one more number at the end of a list

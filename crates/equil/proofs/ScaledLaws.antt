@@ -6,8 +6,9 @@ use Rattle.std.proofs.lemmas.Nat.{pow-add}
 use Rattle.std.proofs.Math.Nat.{mul-le-mul_right}
 use Rattle.whole_numbers.specs.Scaling.{word_scale10}
 use Rattle.whole_numbers.specs.Words.{Word, Holds}
+use Rattle.whole_numbers.proofs.EqualFractions.{holds_times}
 use Rattle.whole_numbers.proofs.Powers.{ten_above}
-use Rattle.whole_numbers.proofs.Ring.{ring, mul_mono_pos}
+use Rattle.whole_numbers.proofs.Ring.{ring}
 use Rattle.whole_numbers.proofs.Scaled.{holds_raised, holds_lowered}
 use Rattle.whole_numbers.proofs.Sums.{sum_to_same, sum_to-*ℤ}
 use Rattle.sys_model.specs.Systems.{System, Fractions, Table, LiesIn, Solves, row_by, residual}
@@ -20,12 +21,6 @@ use Rattle.equil.specs.Tables.{IsWorking, exponent_of}
 times_left : (a : ℤ) (q r : ℕ) → a *ℤ pos (q * r) ≡ (a *ℤ pos q) *ℤ pos r
 times_left a q r = let e : pos (q * r) ≡ pos q *ℤ pos r = refl in rw e (simp ring)
 
-holds_times : (r : ℕ) (w : Word) (x : ℤ) (q : ℕ) → Holds w x q → Holds w (x *ℤ pos r) (q * r)
-holds_times r w x q h = record {
-  above = rw (times_left w.lo q r) (mul_mono_pos _ _ r h.above);
-  below = rw (times_left w.hi q r) (mul_mono_pos _ _ r h.below);
-}
-
 raised_by : (x : ℤ) (m : ℕ) → (x *ℤ pos (10 ^ m)) *ℤ pos (10 ^ 22) ≡ x *ℤ pos (10 ^ (22 + m))
 raised_by x m = sym (times_left x (10 ^ m) (10 ^ 22)) ∙ ap (λ p. x *ℤ pos p) (omega (arith, pow-add 10 22 m))
 
@@ -36,13 +31,13 @@ lowered_by q k h =
     omega (arith, ap (λ z. q * z) e)
 
 pub holds_scaled : (k : ℤ) (w : Word) (x : ℤ) (q : ℕ) → negsuc 21 ≤ℤ k → Holds w x q → Holds (word_scale10 w k) (x *ℤ pos (ten_power (pos 22 +ℤ k))) (q * 10 ^ 22)
-holds_scaled (pos m) w x q h held = subst (λ y. Holds (word_scale10 w (pos m)) y (q * 10 ^ 22)) (raised_by x m) (holds_times (10 ^ 22) (word_scale10 w (pos m)) (x *ℤ pos (10 ^ m)) q (holds_raised m w x q held))
+holds_scaled (pos m) w x q h held = subst (λ y. Holds (word_scale10 w (pos m)) y (q * 10 ^ 22)) (raised_by x m) (holds_times (word_scale10 w (pos m)) (x *ℤ pos (10 ^ m)) q (10 ^ 22) (holds_raised m w x q held))
 holds_scaled (negsuc j) w x q h held =
     let few : suc j ≤ 22 = omega (arith, ints) in
     let power : 22 - suc j ≡ unsigned_abs (pos 22 +ℤ negsuc j) = omega (arith, ints) in
     subst (λ p. Holds (word_scale10 w (negsuc j)) (x *ℤ pos (10 ^ p)) (q * 10 ^ 22)) power
     (subst (λ d. Holds (word_scale10 w (negsuc j)) (x *ℤ pos (10 ^ (22 - suc j))) d) (lowered_by q j few)
-    (holds_times (10 ^ (22 - suc j)) (word_scale10 w (negsuc j)) x (10 ^ suc j * q) (holds_lowered j w x q held)))
+    (holds_times (word_scale10 w (negsuc j)) x (10 ^ suc j * q) (10 ^ (22 - suc j)) (holds_lowered j w x q held)))
 
 pub lies_scaled : (n : ℕ) (t w : Table) (e : ℕ → ℤ) (S : System) → ((i : ℕ) → i < n → IsInRange (e i)) → IsWorking n t w e → LiesIn n t S → LiesIn n w (scaled_system S e)
 lies_scaled n t w e S range work lies = record {
@@ -52,13 +47,13 @@ lies_scaled n t w e S range work lies = record {
 }
 
 -- ---- solutions
-ten_powers : (u v r : ℤ) → pos 0 ≤ℤ u → pos 0 ≤ℤ v → u +ℤ v ≡ r → ten_power u * ten_power v ≡ ten_power r
+pub ten_powers : (u v r : ℤ) → pos 0 ≤ℤ u → pos 0 ≤ℤ v → u +ℤ v ≡ r → ten_power u * ten_power v ≡ ten_power r
 ten_powers u v r h g e =
     let s : unsigned_abs u + unsigned_abs v ≡ unsigned_abs r = omega (arith, ints) in
     sym (pow-add 10 (unsigned_abs u) (unsigned_abs v)) ∙ ap (λ m. 10 ^ m) s
 
-factor_out : (a x : ℤ) (p q r : ℕ) → p * q ≡ r → (a *ℤ pos p) *ℤ (x *ℤ pos q) ≡ pos r *ℤ (a *ℤ x)
-factor_out a x p q r e =
+pub product_apart : (a x : ℤ) (p q r : ℕ) → p * q ≡ r → (a *ℤ pos p) *ℤ (x *ℤ pos q) ≡ pos r *ℤ (a *ℤ x)
+product_apart a x p q r e =
     let f : pos p *ℤ pos q ≡ pos r = ap pos e in
     (let g : (a *ℤ pos p) *ℤ (x *ℤ pos q) ≡ (pos p *ℤ pos q) *ℤ (a *ℤ x) = simp ring in g) ∙ ap (λ z. z *ℤ (a *ℤ x)) f
 
@@ -73,7 +68,7 @@ solves_scaled n e S v range sol = record {
   rows = λ i row.
       let R = ten_power (pos 22 +ℤ (pos 12 -ℤ e i)) in
       let each = sum_to_same n (λ j. (S.a i j *ℤ pos (ten_power (pos 22 +ℤ (neg_ℤ (e i) -ℤ e j)))) *ℤ (v.x j *ℤ pos (ten_power (pos 12 +ℤ e j)))) (λ j. pos R *ℤ (S.a i j *ℤ v.x j))
-      (λ j column. factor_out (S.a i j) (v.x j) (ten_power (pos 22 +ℤ (neg_ℤ (e i) -ℤ e j))) (ten_power (pos 12 +ℤ e j)) R
+      (λ j column. product_apart (S.a i j) (v.x j) (ten_power (pos 22 +ℤ (neg_ℤ (e i) -ℤ e j))) (ten_power (pos 12 +ℤ e j)) R
       (ten_powers (pos 22 +ℤ (neg_ℤ (e i) -ℤ e j)) (pos 12 +ℤ e j) (pos 22 +ℤ (pos 12 -ℤ e i)) (let a = range i row in let b = range j column in omega (arith, ints)) (let b = range j column in omega (arith, ints)) (omega (arith, ints)))) in
       let whole = each ∙ sum_to-*ℤ n (pos R) (λ j. S.a i j *ℤ v.x j) in
       ap (λ z. z -ℤ (S.c i *ℤ pos R) *ℤ pos v.s) whole ∙ left_of (pos R) (row_by n S.a i v.x) (S.c i) (pos v.s) (sol.rows i row);

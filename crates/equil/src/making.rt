@@ -41,6 +41,5 @@ pub fn working<const N: usize>(
         Ok(d) => d,
         Err(refusal) => return Err(refusal),
     };
-    let _rows = table.size();
     Ok(Working { a, d, e })
 }

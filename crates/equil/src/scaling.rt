@@ -2,8 +2,6 @@
 
 ghost use Rattle.std.specs.Prelude.{◌≡◌, ◌≤◌, ◌<◌, ◌+◌, ◌*◌, ◌^◌, ℕ, ℤ, pos, negsuc, ◌-ℤ◌, neg_ℤ, ◌≤ℤ◌, List, length, slice_index_or, SomeIff, IfOk, IfErr, IfSome, IfNone};
 ghost use Rattle.std.specs.Vec.{vec_len};
-ghost use Rattle.whole_numbers.specs.Scaling.{word_scale10};
-ghost use Rattle.whole_numbers.specs.Words.{Word, size};
 ghost use Rattle.sym_blocks.specs.Tables.{SymTable, word, zero_word};
 ghost use Rattle.equil.specs.Exponents.{IsExponent, IsInRange};
 ghost use Rattle.equil.specs.Refusals.{IfRange};
@@ -18,19 +16,6 @@ use sym_blocks::SymBlock;
 
 /// The greatest size of a working word of a right side.
 const LIMIT: u128 = 10_000_000_000_000_000_000_000_000_000_000_000_000;
-
-/// The word times 10^k, rounded outward, and None exactly where its size passes the limit.
-fn scaled_within(w: &Iv, k: i32, limit: u128) -> Option<Iv>
-    requires { limit ≤ 10 ^ 37 }
-    ensures { SomeIff result (size (word_scale10 w.now k) ≤ limit) (word_scale10 w.now k) }
-{
-    let scaled = w.scale10(k)?;
-    if scaled.mag() <= limit {
-        Some(scaled)
-    } else {
-        None
-    }
-}
 
 fn exponent_at(e: &[i32], i: usize) -> i32
     requires within { i < length e.now }
@@ -88,7 +73,9 @@ fn entry_scaled<const N: usize>(table: &SymBlock<N>, e: &[i32], i: usize, j: usi
     requires column { j < table.now.size }
     ensures { SomeIff result (EntryFits (word table.now) (exponent_of e.now) i j) (working_entry (word table.now) (exponent_of e.now) i j) }
 {
-    scaled_within(&table.get(i, j), entry_shift(e, i, j), 1 << 61)
+    table
+        .get(i, j)
+        .scale10_within(entry_shift(e, i, j), 1 << 61)
 }
 
 /// Puts the working words of a row into `a`, up to the diagonal or to the first that passes its bound, whose
@@ -149,7 +136,7 @@ fn right_scaled(right: &[Iv], e: &[i32], i: usize) -> Option<Iv>
     requires row { i < length right.now }
     ensures { SomeIff result (RightFits (λ k. slice_index_or right.now k zero_word) (exponent_of e.now) i) (working_right (λ k. slice_index_or right.now k zero_word) (exponent_of e.now) i) }
 {
-    scaled_within(&right_at(right, i), right_shift(e, i), LIMIT)
+    right_at(right, i).scale10_within(right_shift(e, i), LIMIT)
 }
 
 /// The working words of the right side. Range comes exactly where one passes its bound, with the first.

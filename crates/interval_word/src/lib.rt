@@ -159,6 +159,20 @@ impl Iv {
         let hi = scale_ceil(self.hi(), k)?;
         Some(made(lo, hi))
     }
+
+    /// The interval times 10^k, rounded outward as in `scale10`, and None exactly where an end passes the limit in
+    /// size.
+    pub fn scale10_within(&self, k: i32, limit: u128) -> Option<Iv>
+        requires { limit ≤ 10 ^ 37 }
+        ensures { SomeIff result (size (word_scale10 self.now k) ≤ limit) (word_scale10 self.now k) }
+    {
+        let scaled = self.scale10(k)?;
+        if scaled.mag() <= limit {
+            Some(scaled)
+        } else {
+            None
+        }
+    }
 }
 
 // Half the sum, rounded down, by halves: the sum itself may pass 128 bits.
@@ -202,6 +216,8 @@ mod tests {
         assert_eq!(rt; Some(w.shift_out(1)), Iv::new(-2, -1));
         assert_eq!(rt; w.scale10(-1), Iv::new(-1, 0));
         assert_eq!(rt; v.scale10(37), None);
+        assert_eq!(rt; v.scale10_within(1, 50), Some(Iv::point(50)));
+        assert_eq!(rt; v.scale10_within(1, 49), None);
         assert_eq!(rt; (w.lo(), v.hi()), (-3, 5));
         Ok(())
     }

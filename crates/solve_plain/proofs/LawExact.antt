@@ -8,7 +8,8 @@ use Rattle.decimal_e.specs.Decimals.{Decimal}
 use Rattle.decimal_e.specs.Fractions.{numerator, denominator}
 use Rattle.decimal_e.specs.Scales.{decimal_word}
 use Rattle.bounds_report.specs.Bounds.{LiesInStack}
-use Rattle.bounds_report.proofs.LawWords.{decimal_word_holds, ten_below_some}
+use Rattle.decimal_e.proofs.Values.{ten_below_some}
+use Rattle.bounds_report.proofs.LawWords.{decimal_word_holds}
 use Rattle.sys_model.specs.Systems.{System}
 use Rattle.plain_rows.specs.Plain.{PlainFile}
 use Rattle.solve_plain.specs.Exact.{Means, IsExact}

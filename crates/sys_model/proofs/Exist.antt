@@ -11,6 +11,7 @@ use Rattle.sys_model.proofs.Law.{vanishing}
 use Rattle.whole_numbers.proofs.WordLaws.{two_pow_above}
 use Rattle.sys_model.proofs.Enclose.{pair_row, row_parts_cover, enclosed, unique}
 use Rattle.std.proofs.Common.{◌^◌, ◌-◌}
+use Rattle.whole_numbers.proofs.Cases.{zero_or_not}
 use Rattle.whole_numbers.proofs.Ring.{ring}
 use Rattle.whole_numbers.proofs.Sums.{sum_to_same, sum_to-*ℤ, sum_to-zero}
 
@@ -24,16 +25,11 @@ pub record Solution (n : ℕ) (a : ℕ → ℕ → ℤ) (c : ℕ → ℤ) : Type
   pub some : 0 < s
   pub rows : (i : ℕ) → i < n → row_by n a i x ≡ c i *ℤ pos s
 
-zero_or : (z : ℤ) → (z ≡ pos 0) ⊎ (z ≢ pos 0)
-zero_or (pos zero) = inl refl
-zero_or (pos (suc n)) = inr (λ e. omega (arith, ints))
-zero_or (negsuc n) = inr (λ e. omega (arith, ints))
-
 -- some value below n is not 0, or all are
 pivot : (n : ℕ) (f : ℕ → ℤ) → ((k : ℕ) × (k < n) × (f k ≢ pos 0)) ⊎ ((k : ℕ) → k < n → f k ≡ pos 0)
 pivot zero f = inr (λ k h. absurd (omega arith))
 pivot (suc n) f =
-    elim (zero_or (f n)) [
+    elim (zero_or_not (f n)) [
       | inr h ↦ inl (n, omega arith, h)
       | inl z ↦ elim (pivot n f) [
         | inl p ↦ inl (p.0, omega (arith, p.1), p.2)
@@ -45,13 +41,13 @@ pivot (suc n) f =
     ]
 
 -- z below n, and last at n
-abbrev with_last : ℕ → (ℕ → ℤ) → ℤ → ℕ → ℤ
+abbrev pub with_last : ℕ → (ℕ → ℤ) → ℤ → ℕ → ℤ
 with_last n z last j = cond (eqb j n) last (z j)
 
-at_last : (n : ℕ) (z : ℕ → ℤ) (last : ℤ) → with_last n z last n ≡ last
+pub at_last : (n : ℕ) (z : ℕ → ℤ) (last : ℤ) → with_last n z last n ≡ last
 at_last n z last = grind (arith, nat_tests)
 
-at_other : (n : ℕ) (z : ℕ → ℤ) (last : ℤ) (j : ℕ) → j < n → with_last n z last j ≡ z j
+pub at_other : (n : ℕ) (z : ℕ → ℤ) (last : ℤ) (j : ℕ) → j < n → with_last n z last j ≡ z j
 at_other n z last j h = grind (arith, nat_tests)
 
 row_by_last : (n : ℕ) (a : ℕ → ℕ → ℤ) (i : ℕ) (z : ℕ → ℤ) (last : ℤ) → row_by (suc n) a i (with_last n z last) ≡ row_by n a i z +ℤ a i n *ℤ last
@@ -100,7 +96,7 @@ scaled_row n a i d z = sum_to_same n (λ j. a i j *ℤ (d *ℤ z j)) (λ j. d *�
 nonzero_cancel : (d z : ℤ) → d ≢ pos 0 → d *ℤ z ≡ pos 0 → z ≡ pos 0
 nonzero_cancel d z h e =
     let m = sym (unsigned_abs-mul d z) ∙ ap unsigned_abs e in
-    elim (zero_or z) [
+    elim (zero_or_not z) [
       | inl q ↦ q
       | inr q ↦
           let x : 1 ≤ unsigned_abs d = omega (arith, ints) in

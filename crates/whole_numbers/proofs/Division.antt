@@ -47,6 +47,9 @@ ceil_more x (negsuc m) q r h d e z = absurd (omega (arith, ints))
 pub two_pow_small : (h : ℕ) → h ≤ 126 → (0 < 2 ^ h) × (2 ^ h ≤ 2 ^ 126)
 two_pow_small h l = (two_pow_above h, pow-le-pow_right {n = 2} (omega arith) l)
 
+pub two_pow_le : (k : ℕ) → k ≤ 110 → (0 < 2 ^ k) × (2 ^ k ≤ 2 ^ 110)
+two_pow_le k h = (two_pow_above k, pow-le-pow_right {n = 2} (omega arith) h)
+
 pub ceil_over_fits : (w : Width) (x : ℤ) (m : ℕ) → FitsSigned w x → FitsSigned w (ceil_over x m)
 ceil_over_fits w (pos zero) m h = omega (arith, ints)
 ceil_over_fits w (pos (suc n)) m h = omega (arith, ints)

@@ -3,11 +3,8 @@ use Rattle.std.proofs.Common.{◌≡◌, ℕ, ℤ, pos, ◌+ℤ◌, ◌*ℤ◌, 
 use Rattle.std.proofs.Math.IntN.{◌-ℤ◌}
 use Rattle.std.proofs.lemmas.Int.{ints}
 use Rattle.whole_numbers.specs.Words.{Word, Holds, word_add, word_sub}
-use Rattle.whole_numbers.proofs.Ring.{ring, *ℤ_assoc, *ℤ_left_comm, mul_mono_pos, le_from_product}
+use Rattle.whole_numbers.proofs.Ring.{*ℤ_assoc, *ℤ_left_comm, *ℤ_right_comm, mul_mono_pos, le_from_product}
 use Rattle.whole_numbers.proofs.WordLaws.{holds_add, holds_sub}
-
-swapped : (a : ℤ) (m q : ℕ) → (a *ℤ pos m) *ℤ pos q ≡ (a *ℤ pos q) *ℤ pos m
-swapped a m q = simp ring
 
 -- products with three naturals are equal where those of the naturals are
 pub equal_thrice : (m : ℤ) (a b c d e f : ℕ) → (a * b) * c ≡ (d * e) * f → ((m *ℤ pos a) *ℤ pos b) *ℤ pos c ≡ ((m *ℤ pos d) *ℤ pos e) *ℤ pos f
@@ -28,8 +25,8 @@ same_from_product a b k some h =
 -- a word that holds a fraction holds each fraction equal to it
 pub holds_same : (w : Word) (x y : ℤ) (q p : ℕ) → 0 < q → x *ℤ pos p ≡ y *ℤ pos q → Holds w x q → Holds w y p
 holds_same w x y q p some same h = record {
-  above = le_from_product (w.lo *ℤ pos p) y q some (rw (swapped w.lo p q, ← same) (mul_mono_pos _ _ p h.above));
-  below = le_from_product y (w.hi *ℤ pos p) q some (rw (swapped w.hi p q, ← same) (mul_mono_pos _ _ p h.below));
+  above = le_from_product (w.lo *ℤ pos p) y q some (rw (*ℤ_right_comm w.lo (pos p) (pos q), ← same) (mul_mono_pos _ _ p h.above));
+  below = le_from_product y (w.hi *ℤ pos p) q some (rw (*ℤ_right_comm w.hi (pos p) (pos q), ← same) (mul_mono_pos _ _ p h.below));
 }
 
 -- the fraction over p times its denominator

@@ -1,11 +1,12 @@
 -- Products and quotients of fractions that words hold.
-use Rattle.std.proofs.Common.{◌≡◌, ℕ, suc, ℤ, pos, negsuc, ◌*ℤ◌, neg_ℤ, ◌≤ℤ◌, ◌≤◌, ◌<◌, ◌*◌, ◌/◌, arith, refl}
+use Rattle.std.proofs.Common.{◌≡◌, ℕ, suc, ℤ, pos, negsuc, ◌*ℤ◌, neg_ℤ, ◌≤ℤ◌, ◌≤◌, ◌<◌, ◌*◌, ◌/◌, arith}
 use Rattle.std.specs.Int.{int_min, int_max}
 use Rattle.std.proofs.lemmas.Int.{ints, clamps, by_lt_z}
 use Rattle.std.proofs.Math.Nat.{mul-le-mul_left, mul-le-mul_right}
 use Rattle.whole_numbers.specs.Words.{Word, Holds, word_mul, least_of, greatest_of}
 use Rattle.whole_numbers.specs.Quotients.{floor_over}
 use Rattle.whole_numbers.proofs.Ring.{ring, *ℤ_assoc, mul_mono_pos}
+use Rattle.whole_numbers.proofs.EqualFractions.{products_apart}
 use Rattle.whole_numbers.proofs.Products.{word_mul_contains}
 
 -- the word of w with each end times k
@@ -22,9 +23,6 @@ max_times a b k = by_lt_z a b
     (λ l. let h = mul_mono_pos a b k (omega (arith, ints)) in let e : int_max a b ≡ b = omega (arith, ints, clamps) in rw e (omega (arith, ints, clamps)))
     (λ l. let h = mul_mono_pos b a k l in let e : int_max a b ≡ a = omega (arith, ints, clamps) in rw e (omega (arith, ints, clamps)))
 
-corner : (a b : ℤ) (q p : ℕ) → (a *ℤ pos q) *ℤ (b *ℤ pos p) ≡ (a *ℤ b) *ℤ pos (q * p)
-corner a b q p = let e : pos (q * p) ≡ pos q *ℤ pos p = refl in rw e (simp ring)
-
 least_times : (a b c d : ℤ) (k : ℕ) → least_of (a *ℤ pos k) (b *ℤ pos k) (c *ℤ pos k) (d *ℤ pos k) ≡ least_of a b c d *ℤ pos k
 unfolding least_of
 least_times a b c d k = rw (min_times a b k, min_times c d k) (min_times (int_min a b) (int_min c d) k)
@@ -36,10 +34,10 @@ greatest_times a b c d k = rw (max_times a b k, max_times c d k) (max_times (int
 pub holds_mul : (w v : Word) (x y : ℤ) (q p : ℕ) → Holds w x q → Holds v y p → Holds (word_mul w v) (x *ℤ y) (q * p)
 holds_mul w v x y q p h k =
     let m = word_mul_contains (times_word w q) (times_word v p) x y (record { above = h.above; below = h.below }) (record { above = k.above; below = k.below }) in
-    let a = corner w.lo v.lo q p in
-    let b = corner w.lo v.hi q p in
-    let c = corner w.hi v.lo q p in
-    let d = corner w.hi v.hi q p in
+    let a = products_apart w.lo v.lo q p in
+    let b = products_apart w.lo v.hi q p in
+    let c = products_apart w.hi v.lo q p in
+    let d = products_apart w.hi v.hi q p in
     let l = least_times (w.lo *ℤ v.lo) (w.lo *ℤ v.hi) (w.hi *ℤ v.lo) (w.hi *ℤ v.hi) (q * p) in
     let g = greatest_times (w.lo *ℤ v.lo) (w.lo *ℤ v.hi) (w.hi *ℤ v.lo) (w.hi *ℤ v.hi) (q * p) in
     record { above = rw (a, b, c, d, l) at m.above; below = rw (a, b, c, d, g) at m.below }

@@ -1,3 +1,4 @@
+pub mod Cases
 pub mod Division
 pub mod EqualFractions
 pub mod Fits

@@ -37,6 +37,9 @@ neg-*ℤ a b = *ℤ_comm (neg_ℤ a) b ∙ *ℤ-neg b a ∙ ap neg_ℤ (*ℤ_com
 
 pub ruleset ring = (*ℤ-+ℤ, +ℤ-*ℤ, *ℤ-neg, neg-*ℤ, *ℤ_assoc, *ℤ_left_comm, *ℤ_comm)
 
+pub *ℤ_right_comm : (a b c : ℤ) → (a *ℤ b) *ℤ c ≡ (a *ℤ c) *ℤ b
+*ℤ_right_comm a b c = simp ring
+
 -- ---- order
 pub mul_mono_pos : (a b : ℤ) (k : ℕ) → a ≤ℤ b → (a *ℤ pos k) ≤ℤ (b *ℤ pos k)
 mul_mono_pos a b k h = let p = mul-le-mul_right k (le_out a b h) in omega (arith, ints)

@@ -1,10 +1,10 @@
 -- What a word scaled by a power of ten holds.
-use Rattle.std.proofs.Common.{◌≡◌, ℕ, suc, ℤ, pos, negsuc, ◌*ℤ◌, ◌≤ℤ◌, ◌*◌, ◌^◌}
+use Rattle.std.proofs.Common.{ℕ, suc, ℤ, pos, negsuc, ◌*ℤ◌, ◌≤ℤ◌, ◌*◌, ◌^◌}
 use Rattle.whole_numbers.specs.Scaling.{floor_scaled, ceil_scaled, word_scale10}
 use Rattle.whole_numbers.specs.Words.{Word, Holds}
 use Rattle.whole_numbers.proofs.Division.{floor_le_ceil}
 use Rattle.whole_numbers.proofs.Powers.{ten_above}
-use Rattle.whole_numbers.proofs.Ring.{ring, mul_mono_pos}
+use Rattle.whole_numbers.proofs.Ring.{*ℤ_right_comm, mul_mono_pos}
 use Rattle.whole_numbers.proofs.WordLaws.{holds_over}
 
 -- the ends stay in order
@@ -12,13 +12,10 @@ pub floor_scaled_le_ceil : (a b k : ℤ) → a ≤ℤ b → floor_scaled a k ≤
 floor_scaled_le_ceil a b (pos k) h = mul_mono_pos a b (10 ^ k) h
 floor_scaled_le_ceil a b (negsuc k) h = floor_le_ceil a b (10 ^ suc k) (ten_above (suc k)) h
 
-swapped : (a : ℤ) (m q : ℕ) → (a *ℤ pos m) *ℤ pos q ≡ (a *ℤ pos q) *ℤ pos m
-swapped a m q = simp ring
-
 pub holds_raised : (k : ℕ) (w : Word) (x : ℤ) (q : ℕ) → Holds w x q → Holds (word_scale10 w (pos k)) (x *ℤ pos (10 ^ k)) q
 holds_raised k w x q h = record {
-  above = rw (swapped w.lo (10 ^ k) q) (mul_mono_pos _ _ (10 ^ k) h.above);
-  below = rw (swapped w.hi (10 ^ k) q) (mul_mono_pos _ _ (10 ^ k) h.below);
+  above = rw (*ℤ_right_comm w.lo (pos (10 ^ k)) (pos q)) (mul_mono_pos _ _ (10 ^ k) h.above);
+  below = rw (*ℤ_right_comm w.hi (pos (10 ^ k)) (pos q)) (mul_mono_pos _ _ (10 ^ k) h.below);
 }
 
 pub holds_lowered : (k : ℕ) (w : Word) (x : ℤ) (q : ℕ) → Holds w x q → Holds (word_scale10 w (negsuc k)) x (10 ^ suc k * q)

@@ -3,7 +3,7 @@ use Rattle.std.proofs.Common.{◌≡◌, ℕ, zero, suc, pos, ℤ, ◌+ℤ◌, �
 use Rattle.std.proofs.lemmas.Int.{ints, unsigned_abs-mul}
 use Rattle.std.proofs.Math.Nat.{mul-le-mul}
 use Rattle.std.proofs.lemmas.Bool.Decides.{nat_tests}
-use Rattle.std.proofs.Math.Decide.{dec_lt}
+use Rattle.std.proofs.Math.Decide.{dec_le, dec_lt}
 use Rattle.whole_numbers.specs.Sum.{sum_to, total_to, unit}
 use Rattle.whole_numbers.proofs.Ring.{*ℤ-+ℤ}
 
@@ -62,6 +62,22 @@ abs-sum_to (suc n) f = omega (arith, ints, abs-sum_to n f)
 pub total_to_le : (n : ℕ) (f g : ℕ → ℕ) → ((k : ℕ) → k < n → f k ≤ g k) → total_to n f ≤ total_to n g
 total_to_le zero f g h = omega arith
 total_to_le (suc n) f g h = omega (arith, h n (omega arith), total_to_le n f g (λ k l. h k (omega arith)))
+
+pub total_to_same : (n : ℕ) (f g : ℕ → ℕ) → ((k : ℕ) → k < n → f k ≡ g k) → total_to n f ≡ total_to n g
+total_to_same zero f g h = refl
+total_to_same (suc n) f g h =
+    let here = h n (omega arith) in
+    let below = total_to_same n f g (λ k l. h k (omega arith)) in
+    cc
+
+-- the total of the first k numbers is within that of all n
+pub total_part : (n : ℕ) (f : ℕ → ℕ) (k : ℕ) → k ≤ n → total_to k f ≤ total_to n f
+total_part zero f k h = let e : k ≡ 0 = omega arith in rw e (omega arith)
+total_part (suc n) f k h =
+    elim (dec_le k n) [
+      | yes l ↦ omega (arith, total_part n f k l)
+      | no l ↦ let e : k ≡ suc n = omega arith in rw e (omega arith)
+    ]
 
 pub total_to-* : (n : ℕ) (f : ℕ → ℕ) (m : ℕ) → total_to n (λ k. f k * m) ≡ total_to n f * m
 total_to-* zero f m = omega arith

@@ -1,5 +1,5 @@
 -- Words: intervals of whole numbers, and the fractions that they hold.
-use Rattle.std.proofs.Common.{ℕ, zero, suc, pos, negsuc, ℤ, ◌+ℤ◌, ◌*ℤ◌, neg_ℤ, ◌≤ℤ◌, ◌<ℤ◌, arith, ◌≤◌, ◌<◌, ◌*◌, ◌^◌, unsigned_abs}
+use Rattle.std.proofs.Common.{◌≡◌, ℕ, zero, suc, pos, negsuc, ℤ, ◌+ℤ◌, ◌*ℤ◌, neg_ℤ, ◌≤ℤ◌, ◌<ℤ◌, arith, ◌≤◌, ◌<◌, ◌*◌, ◌^◌, unsigned_abs, ap, refl}
 use Rattle.std.proofs.Math.IntN.{◌-ℤ◌}
 use Rattle.std.proofs.lemmas.Int.{ints, unsigned_abs-mul}
 use Rattle.std.proofs.lemmas.Grind.{div_ceil_times}
@@ -9,6 +9,7 @@ use Rattle.whole_numbers.specs.Sum.{sum_to}
 use Rattle.whole_numbers.specs.Words.{Word, Holds, point_word, word_add, word_sub, word_neg, word_scale, sum_words, size, word_shift}
 use Rattle.whole_numbers.specs.Quotients.{floor_over, ceil_over, up_over}
 use Rattle.whole_numbers.proofs.Ring.{ring, *ℤ_assoc, mul_mono_pos}
+use Rattle.whole_numbers.proofs.Sums.{sum_to_same}
 
 pub two_pow_above : (h : ℕ) → 0 < 2 ^ h
 two_pow_above zero = omega arith
@@ -60,6 +61,13 @@ holds_scale (negsuc k) w x q h = record {
 pub holds_sum : (n : ℕ) (f : ℕ → Word) (x : ℕ → ℤ) (q : ℕ) → ((k : ℕ) → k < n → Holds (f k) (x k) q) → Holds (sum_words n f) (sum_to n x) q
 holds_sum zero f x q h = record { above = omega (arith, ints); below = omega (arith, ints) }
 holds_sum (suc n) f x q h = holds_add (sum_words n f) (f n) (sum_to n x) (x n) q (holds_sum n f x q (λ k l. h k (omega arith))) (h n (omega arith))
+
+-- sums of the same words are the same
+pub sum_words_same : (n : ℕ) (f g : ℕ → Word) → ((k : ℕ) → k < n → f k ≡ g k) → sum_words n f ≡ sum_words n g
+sum_words_same n f g h =
+    let lo = sum_to_same n (λ k. (f k).lo) (λ k. (g k).lo) (λ k l. ap (λ w. w.lo) (h k l)) in
+    let hi = sum_to_same n (λ k. (f k).hi) (λ k. (g k).hi) (λ k l. ap (λ w. w.hi) (h k l)) in
+    rw (lo, hi) refl
 
 pub holds_size : (w : Word) (x : ℤ) (q : ℕ) → Holds w x q → unsigned_abs x ≤ size w * q
 holds_size w x q h =

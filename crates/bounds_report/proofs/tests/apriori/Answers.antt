@@ -1,4 +1,4 @@
-use Rattle.std.proofs.Common.{ℕ, ℤ, pos, negsuc, ◌*ℤ◌, ◌≤◌, ◌*◌, ◌^◌, to_z, of_z, unsigned_abs, Option, Some, None, MatchOption, IfSome, arith, ap}
+use Rattle.std.proofs.Common.{ℤ, pos, negsuc, ◌≤◌, ◌*◌, ◌^◌, to_z, of_z, unsigned_abs, Option, Some, None, MatchOption, IfSome, arith, ap}
 use Rattle.std.specs.Int.{w128}
 use Rattle.std.proofs.Math.Nat.{mul-le-mul_right}
 use Rattle.std.proofs.lemmas.Int.{ints, unsigned_abs-mul}

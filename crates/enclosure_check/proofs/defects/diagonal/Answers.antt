@@ -2,7 +2,7 @@ use Rattle.std.proofs.Common.{arith, ◌≡◌, ◌∙◌, ◌+◌, ◌*◌, ◌
 use Rattle.std.specs.Int.{w128}
 use Rattle.std.proofs.lemmas.Int.{ints}
 use Rattle.whole_numbers.proofs.Sums.{unit_here}
-use Rattle.enclosure_check.proofs.ErrorLaws.{two_pow_le}
+use Rattle.whole_numbers.proofs.Division.{two_pow_le}
 use Rattle.enclosure_check.proofs.defects.diagonal.Goals as goal
 
 pub returns-then-j-i : goal.returns-then-j-i

@@ -1,5 +1,5 @@
 use Rattle.std.proofs.Common.{arith, ◌≡◌, ◌+◌, ◌*◌, ◌%◌, ◌^◌}
-use Rattle.enclosure_check.proofs.ErrorLaws.{two_pow_le}
+use Rattle.whole_numbers.proofs.Division.{two_pow_le}
 use Rattle.enclosure_check.proofs.DefectLaws.{parts_small}
 use Rattle.enclosure_check.proofs.defects.parts.Goals as goal
 

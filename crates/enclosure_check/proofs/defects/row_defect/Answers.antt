@@ -3,7 +3,7 @@ use Rattle.sym_blocks.specs.Tables.{word}
 use Rattle.chol_factor.specs.Squares.{at}
 use Rattle.equil.specs.Tables.{table_of}
 use Rattle.enclosure_check.specs.Defects.{products_to}
-use Rattle.enclosure_check.proofs.ErrorLaws.{two_pow_le}
+use Rattle.whole_numbers.proofs.Division.{two_pow_le}
 use Rattle.enclosure_check.proofs.DefectLaws.{total_small, row_parts_is}
 use Rattle.enclosure_check.proofs.defects.row_defect.Goals as goal
 

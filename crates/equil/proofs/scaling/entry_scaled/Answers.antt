@@ -7,4 +7,4 @@ pub returns : goal.returns
 returns g c =
     let fits : FitsSigned w32 c.entry_shift.result = search rules in
     let shift = to_z-of_z w32 c.entry_shift.result fits ∙ c.entry_shift.ensures in
-    scaled_same c.scaled_within.result (2 ^ 61) _ _ _ _ c.get.ensures shift c.scaled_within.ensures
+    scaled_same c.scale10_within.result (2 ^ 61) _ _ _ _ c.get.ensures shift c.scale10_within.ensures

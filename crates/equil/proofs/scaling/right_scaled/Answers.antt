@@ -7,4 +7,4 @@ pub returns : goal.returns
 returns c =
     let fits : FitsSigned w32 c.right_shift.result = search rules in
     let shift = to_z-of_z w32 c.right_shift.result fits ∙ c.right_shift.ensures in
-    scaled_same c.scaled_within.result (10 ^ 37) _ _ _ _ c.right_at.ensures shift c.scaled_within.ensures
+    scaled_same c.scale10_within.result (10 ^ 37) _ _ _ _ c.right_at.ensures shift c.scale10_within.ensures

@@ -1,7 +1,7 @@
 use Rattle.std.proofs.Common.{arith, ◌+◌, ◌*◌}
 use Rattle.chol_factor.specs.Squares.{at}
 use Rattle.enclosure_check.specs.Defects.{word_between, products_to, turned_table}
-use Rattle.enclosure_check.proofs.ErrorLaws.{two_pow_le}
+use Rattle.whole_numbers.proofs.Division.{two_pow_le}
 use Rattle.enclosure_check.proofs.DefectLaws.{total_small, row_parts_is}
 use Rattle.enclosure_check.proofs.defects.Squares.row_parts.Goals as goal
 
