@@ -100,7 +100,7 @@ def main(what, sizes):
         if what == "kernels":
             kernels(program, yardstick, sizes or [300, 900])
         else:
-            solver = build("snxcomb", ["solve", "data/one-station.snx", "/dev/null"])
+            solver = build("snxcomb", ["solve", "data/two-stations.snx", "/dev/null"])
             solve(program, solver, yardstick, sizes or [30, 300, 900], folder)
 
 
