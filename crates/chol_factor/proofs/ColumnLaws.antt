@@ -1,6 +1,7 @@
 -- A column in the making, word by word, and the columns one by one.
 use Rattle.std.proofs.Common.{◌≡◌, ◌≤◌, ◌<◌, ◌+◌, ◌*◌, ◌^◌, ◌∙◌, inl, inr, ℕ, zero, suc, ℤ, pos, negsuc, ◌*ℤ◌, ◌≤ℤ◌, unsigned_abs, List, length, sym, ap, subst, arith}
 use Rattle.std.specs.Int.{IsIsqrt}
+use Rattle.std.proofs.Math.IntN.{◌-ℤ◌}
 use Rattle.std.proofs.Math.Decide.{dec_lt}
 use Rattle.std.proofs.Math.Nat.{mul-le-mul}
 use Rattle.std.proofs.lemmas.Int.{ints}
@@ -8,7 +9,7 @@ use Rattle.whole_numbers.specs.Sum.{sum_to}
 use Rattle.whole_numbers.proofs.Sums.{sum_to_same}
 use Rattle.whole_numbers.proofs.Cases.{last_or_before}
 use Rattle.chol_factor.specs.Factor.{FactorTable, factor_word, part, ratio, left_of, IsRoot, IsColumn, HasColumns, IsPivot}
-use Rattle.chol_factor.specs.Making.{SetsWord, AgreeBefore, IsDiagonal, IsBounded, IsStuck}
+use Rattle.chol_factor.specs.Making.{SetsWord, AgreeBefore, IsWaiting, IsDiagonal, IsBounded, IsStuck}
 use Rattle.chol_factor.specs.Squares.{at}
 use Rattle.chol_factor.proofs.Alone.{equal_parts, equal_ratios, root_alone, left_alone, factor_alone}
 
@@ -45,12 +46,25 @@ diagonal_positive a (negsuc r) some p = absurd (omega (arith, ints, p.least))
 pub bounded_same : (a b r s : ℤ) → a ≡ b → r ≡ s → IsBounded a r → IsBounded b s
 bounded_same a b r s e h p = subst (IsBounded b) h (subst (λ x. IsBounded x r) e p)
 
+pub left_same : (m p f : ℕ → ℕ → ℤ) (i j : ℕ) → p i j ≡ m i j → left_of p f i j ≡ left_of m f i j
+left_same m p f i j e = ap (λ a. a -ℤ sum_to j (λ k. part (f i k) (f j k))) e
+
 -- ---- a word written into column j
 pub agree_set : (n : ℕ) (o f g : FactorTable) (i j : ℕ) (v : ℤ) → f.size ≡ n → AgreeBefore n (factor_word o) (factor_word f) j → SetsWord f g i j v → AgreeBefore n (factor_word o) (factor_word g) j
 agree_set n o f g i j v size kept s a b column lower row = kept a b column lower row ∙ sym (s.others a b (omega arith) (omega arith) (λ e. let p = e.1 in absurd (omega arith)))
 
 pub agree_self : (n : ℕ) (f g : FactorTable) (i j : ℕ) (v : ℤ) → n ≤ f.size → SetsWord f g i j v → AgreeBefore n (factor_word f) (factor_word g) j
 agree_self n f g i j v size s a b column lower row = sym (s.others a b (omega arith) (omega arith) (λ e. let p = e.1 in absurd (omega arith)))
+
+pub waiting_set : (n : ℕ) (m : ℕ → ℕ → ℤ) (f g : FactorTable) (i j : ℕ) (v : ℤ) → n ≤ f.size → IsWaiting n m (factor_word f) (j + 1) → SetsWord f g i j v → IsWaiting n m (factor_word g) (j + 1)
+waiting_set n m f g i j v size waiting s a b column lower row = s.others a b (omega arith) (omega arith) (λ e. let p = e.1 in absurd (omega arith)) ∙ waiting a b column lower row
+
+-- the words of column j from row i on are still those of m
+abbrev pub IsRest : ℕ → (ℕ → ℕ → ℤ) → (ℕ → ℕ → ℤ) → ℕ → ℕ → Type 0
+IsRest n m f j i = (a : ℕ) → i ≤ a → a < n → f a j ≡ m a j
+
+pub rest_set : (n : ℕ) (m : ℕ → ℕ → ℤ) (f g : FactorTable) (i j : ℕ) (v : ℤ) → n ≤ f.size → j ≤ i → IsRest n m (factor_word f) j i → SetsWord f g i j v → IsRest n m (factor_word g) j (i + 1)
+rest_set n m f g i j v size lower rest s a h row = s.others a j (omega arith) (omega arith) (λ e. let p = e.0 in absurd (omega arith)) ∙ rest a (omega arith) row
 
 pub column_started : (m : ℕ → ℕ → ℤ) (f g : FactorTable) (j : ℕ) (r : ℤ) → j < f.size → IsDiagonal (left_of m (factor_word f) j j) r → SetsWord f g j j r → IsColumn (j + 1) m (factor_word g) j
 column_started m f g j r row d s =
@@ -90,6 +104,37 @@ column_more m f g i j a r v lower row p at_a at_r bounded quotient s =
         | inr q ↦ subst (λ x. unsigned_abs (factor_word g x j) ≤ 2 ^ 61) (sym q) (subst (λ a. unsigned_abs a ≤ 2 ^ 61) (sym (s.here ∙ is)) b.fits)
       ];
     }
+
+-- ---- a row of middles
+pub row_filled : (m : ℕ → ℕ → ℤ) (f g : FactorTable) (i k : ℕ) (v : ℤ) → i < f.size → k ≤ i → v ≡ m i k → IsWaiting i m (factor_word f) 0 → ((c : ℕ) → c < k → factor_word f i c ≡ m i c) → SetsWord f g i k v → IsWaiting i m (factor_word g) 0 × ((c : ℕ) → c < k + 1 → factor_word g i c ≡ m i c)
+row_filled m f g i k v row column is before words s = (
+  λ a b z lower above. s.others a b (omega arith) (omega arith) (λ e. let p = e.0 in absurd (omega arith)) ∙ before a b z lower above,
+  λ c h. elim (last_or_before c k h) [
+    | inl q ↦ s.others i c row (omega arith) (λ e. let p = e.1 in absurd (omega arith)) ∙ words c q
+    | inr q ↦ subst (λ x. factor_word g i x ≡ m i x) (sym q) (s.here ∙ is)
+  ],
+)
+
+pub rows_filled : (m f : ℕ → ℕ → ℤ) (i : ℕ) → IsWaiting i m f 0 → ((c : ℕ) → c < i + 1 → f i c ≡ m i c) → IsWaiting (i + 1) m f 0
+rows_filled m f i before words a b z lower row = elim (last_or_before a i row) [
+  | inl q ↦ before a b z lower q
+  | inr q ↦ subst (λ x. f x b ≡ m x b) (sym q) (words b (omega arith))
+]
+
+-- ---- the same middles in column j
+pub column_of : (n : ℕ) (m p g : ℕ → ℕ → ℤ) (j : ℕ) → j < n → IsRest n m p j j → IsColumn n p g j → IsColumn n m g j
+column_of n m p g j row same c =
+    let left = λ (i : ℕ) (h : j ≤ i) (l : i < n). left_same m p g i j (same i h l) in
+    record {
+      pivot = subst (λ a. pos 1 ≤ℤ a) (left j (omega arith) row) c.pivot;
+      root = subst (λ a. IsRoot a (g j j)) (left j (omega arith) row) c.root;
+      below = λ i h l. c.below i h l ∙ ap (λ a. ratio a (g j j)) (left i (omega arith) l);
+      left_fits = λ i h l. subst (λ a. unsigned_abs a ≤ 2 ^ 61) (left i h l) (c.left_fits i h l);
+      fits = c.fits;
+    }
+
+pub stuck_of : (n : ℕ) (m p f : ℕ → ℕ → ℤ) (j : ℕ) → j < n → IsRest n m p j j → IsStuck n p f j → IsStuck n m f j
+stuck_of n m p f j row same stuck g agree c = stuck g agree (column_of n p m g j row (λ i h l. sym (same i h l)) c)
 
 -- ---- where column j ends
 pub stuck_diagonal : (n : ℕ) (m f : ℕ → ℕ → ℤ) (j : ℕ) → j < n → ((r : ℤ) → ¬ (IsDiagonal (left_of m f j j) r)) → IsStuck n m f j

@@ -19,6 +19,10 @@ pub record SetsWord (f g : FactorTable) (i k : ℕ) (v : ℤ) : Type 0 where
 abbrev pub AgreeBefore : ℕ → (ℕ → ℕ → ℤ) → (ℕ → ℕ → ℤ) → ℕ → Type 0
 AgreeBefore n f g j = (i k : ℕ) → k < j → k ≤ i → i < n → f i k ≡ g i k
 
+-- f has the numbers of m in the columns from column j on, from the diagonal down
+abbrev pub IsWaiting : ℕ → (ℕ → ℕ → ℤ) → (ℕ → ℕ → ℤ) → ℕ → Type 0
+IsWaiting n m f j = (i k : ℕ) → j ≤ k → k ≤ i → i < n → f i k ≡ m i k
+
 -- r is the word of the diagonal where the columns before leave a of it
 pub record IsDiagonal (a r : ℤ) : Type 0 where
   pub pivot : pos 1 ≤ℤ a

@@ -4,14 +4,14 @@ ghost use Rattle.std.specs.Prelude.{◌≡◌, ◌≤◌, ◌<◌, ◌+◌, ◌*
 ghost use Rattle.std.specs.Bool.{OnTrue, OnFalse};
 ghost use Rattle.whole_numbers.specs.Sum.{sum_to};
 ghost use Rattle.chol_factor.specs.Factor.{FactorTable, factor_word, middles, part, ratio, left_of, IsColumn, HasColumns};
-ghost use Rattle.chol_factor.specs.Making.{AgreeBefore, IsDiagonal, IsBounded, IsStuck};
+ghost use Rattle.chol_factor.specs.Making.{AgreeBefore, IsWaiting, IsDiagonal, IsBounded, IsStuck};
 ghost use Rattle.chol_factor.specs.Refusals.{IsFactorRefused};
 
 use crate::FactorError;
 use crate::kernels::{parts, ratio};
 use crate::tables::{Factor, Square};
 use equil::Working;
-use std::alloc::Global;
+use std::alloc::{AllocError, Global};
 use whole_numbers::product;
 
 /// The number 1 in units of 2^-60.
@@ -21,13 +21,38 @@ const UNIT: i128 = 1 << 60;
 const LIMIT: u128 = 1 << 61;
 
 /// The middle of the working word (i, j).
-fn middle<const N: usize>(w: &Working<N>, i: usize, j: usize) -> i128
+fn middle<const N: usize>(w: &Working<N>, i: usize, j: usize) -> i64
     requires row { i < w.now.a.size }
     requires column { j < w.now.a.size }
     ensures value { result ≡ middles w.now.a i j }
     ensures bound { unsigned_abs result ≤ 2 ^ 61 }
 {
-    w.a.get(i, j).mid()
+    w.a.get(i, j).mid() as i64
+}
+
+/// Makes the words of row `i` the middles of the working words, up to the diagonal, after the rows before it.
+fn fill_row<const N: usize>(f: &mut Square, w: &Working<N>, i: usize)
+    requires sizes { f.old.size ≡ w.now.a.size }
+    requires row { i < f.old.size }
+    requires before { IsWaiting i (middles w.now.a) (factor_word f.old) 0 }
+    ensures size { f.new.size ≡ f.old.size }
+    ensures filled { IsWaiting (i + 1) (middles w.now.a) (factor_word f.new) 0 }
+{
+    for k in 0..i + 1 {
+        f.set(i, k, middle(w, i, k));
+    }
+}
+
+/// The table of the middles of the working words, from which the factor is made in place. Only memory can be wanting.
+fn unmade<const N: usize>(alloc: Global, w: &Working<N>) -> Result<Square, AllocError>
+    ensures size { IfOk result (λ f. f.size ≡ w.now.a.size) }
+    ensures filled { IfOk result (λ f. IsWaiting w.now.a.size (middles w.now.a) (factor_word f) 0) }
+{
+    let mut table = Square::zeros(alloc, w.a.size())?;
+    for i in 0..table.size() {
+        fill_row(&mut table, w, i);
+    }
+    Ok(table)
 }
 
 /// The sum of the parts of rows `i` and `j` before column `j`.
@@ -40,14 +65,13 @@ fn taken(f: &Square, i: usize, j: usize) -> i128
     parts(f.row_before(i, j), f.row_before(j, j))
 }
 
-/// What the columns before column `j` leave of the middle at (i, j).
-fn left<const N: usize>(f: &Square, w: &Working<N>, i: usize, j: usize) -> i128
-    requires sizes { f.now.size ≡ w.now.a.size }
+/// What the columns before column `j` leave of the word at (i, j), where that is still a middle.
+fn left(f: &Square, i: usize, j: usize) -> i128
     requires row { i < f.now.size }
     requires column { j < f.now.size }
-    ensures { result ≡ left_of (middles w.now.a) (factor_word f.now) i j }
+    ensures { result ≡ left_of (factor_word f.now) (factor_word f.now) i j }
 {
-    middle(w, i, j) - taken(f, i, j)
+    i128::from(f.word(i, j)) - taken(f, i, j)
 }
 
 /// The word of the diagonal, and None exactly where it has none in bounds.
@@ -76,22 +100,23 @@ fn quotient(t: i128, root: i64) -> Option<i64>
     Some(word as i64)
 }
 
-/// Makes column `j`, after the columns before it, and answers whether there is one. Where there is none, no table with
-/// the same columns before it has one.
-fn make_column<const N: usize>(f: &mut Square, w: &Working<N>, j: usize) -> bool
-    requires sizes { f.old.size ≡ w.now.a.size }
-    requires column { j < f.old.size }
+/// Makes column `j` from the middles that stand in it, after the columns before it, and answers whether there is one.
+/// Where there is none, no table with the same columns before it has one. The columns after it keep their middles.
+fn make_column(f: &mut Square, j: usize) -> bool
+    requires { j < f.old.size }
     ensures size { f.new.size ≡ f.old.size }
-    ensures kept { AgreeBefore w.now.a.size (factor_word f.old) (factor_word f.new) j }
-    ensures made { OnTrue result (IsColumn w.now.a.size (middles w.now.a) (factor_word f.new) j) }
-    ensures stuck { OnFalse result (IsStuck w.now.a.size (middles w.now.a) (factor_word f.old) j) }
+    ensures kept { AgreeBefore f.old.size (factor_word f.old) (factor_word f.new) j }
+    ensures waiting { IsWaiting f.old.size (factor_word f.old) (factor_word f.new) (j + 1) }
+    ensures made { OnTrue result (IsColumn f.old.size (factor_word f.old) (factor_word f.new) j) }
+    ensures stuck { OnFalse result (IsStuck f.old.size (factor_word f.old) (factor_word f.old) j) }
 {
-    let Some(root) = diagonal(left(f, w, j, j)) else {
+    let size = f.size();
+    let Some(root) = diagonal(left(f, j, j)) else {
         return false;
     };
     f.set(j, j, root);
-    for i in j + 1..f.size() {
-        let Some(word) = quotient(left(f, w, i, j), root) else {
+    for i in j + 1..size {
+        let Some(word) = quotient(left(f, i, j), root) else {
             return false;
         };
         f.set(i, j, word);
@@ -105,11 +130,11 @@ pub fn factor<const N: usize>(alloc: Global, w: &Working<N>) -> Result<Factor, F
     ensures columns { IfOk result (λ f. HasColumns w.now.a.size (middles w.now.a) (factor_word f) w.now.a.size) }
     ensures refused { IfErr result (IsFactorRefused w.now.a.size (middles w.now.a)) }
 {
-    let Ok(mut table) = Square::zeros(alloc, w.a.size()) else {
+    let Ok(mut table) = unmade(alloc, w) else {
         return Err(FactorError::Memory);
     };
     for row in 0..table.size() {
-        if !make_column(&mut table, w, row) {
+        if !make_column(&mut table, row) {
             return Err(FactorError::Pivot { row });
         }
     }

@@ -55,7 +55,8 @@ impl Factor {
     }
 }
 
-/// A factor in the making: a square table of at most 1,000 rows, of words of at most 2^61 in size.
+/// A factor in the making, or the middles that it is made from: a square table of at most 1,000 rows, of words of at most
+/// 2^61 in size.
 #[derive(Drop)]
 pub struct Square {
     size: usize,
@@ -101,6 +102,16 @@ impl Square {
         ensures small { AllAtMost (2 ^ 61) result.now }
     {
         &self.words[i * self.size..i * self.size + k]
+    }
+
+    /// The word of row `i` and column `k`.
+    pub fn word(&self, i: usize, k: usize) -> i64
+        requires row { i < self.now.size }
+        requires column { k < self.now.size }
+        ensures value { result ≡ factor_word self.now i k }
+        ensures small { unsigned_abs result ≤ 2 ^ 61 }
+    {
+        self.words[i * self.size + k]
     }
 
     /// Makes `v` the word of row `i` and column `k`, and keeps every other word.
