@@ -6,7 +6,7 @@
 
 It proves and builds crates/step_times and the program first, and compiles bench/kernels.cpp with g++ -O2. Each command runs five
 times, in turn with the yardstick, and the least time of each step counts. Times are of the wall clock, in milliseconds; memory
-is the greatest resident set of the process. The columns are the pilot without its factor. The defects are the certificate whole, with
+is the greatest resident set of the process, and at least this script's own, from which it starts. The columns are the pilot without its factor. The defects are the certificate whole, with
 its working copies, its errors and its radii.
 """
 
@@ -44,9 +44,11 @@ def numbers(text):
 
 
 def steps(program, words):
-    t = numbers(run([program, *words])[0])
+    text, _, peak = run([program, *words])
+    t = numbers(text)
     t["columns"] = t["pilot"] - t["factor"]
     t["defects"] = t["check"]
+    t["memory"] = peak
     return t
 
 
@@ -69,6 +71,7 @@ def kernels(program, yardstick, sizes):
         print(f"{rows} rows: the proved loops, C++, and the ratio")
         for step in KERNELS:
             print(f"  {step:8} {mine[step]:8.0f} ms {theirs[step]:8.0f} ms {mine[step] / theirs[step]:6.2f}")
+        print(f"  memory {mine['memory']:.0f} MB")
 
 
 def solve(program, solver, yardstick, sizes, folder):
@@ -88,7 +91,8 @@ def solve(program, solver, yardstick, sizes, folder):
         loops = sum(theirs.values())
         print(f"{rows} rows, in milliseconds:")
         print("  " + ", ".join(f"{step} {mine[step]:.0f}" for step in ("read", "tables", "factor", "columns", "vector", "check", "print")))
-        print(f"  the whole program {min(wholes):.0f}; the yardstick's loops {loops:.0f}; ratio {min(wholes) / loops:.2f}; memory {memory:.0f} MB")
+        ratio = f"{min(wholes) / loops:.2f}" if loops >= 10 else "too short to tell"
+        print(f"  the whole program {min(wholes):.0f}; the yardstick's loops {loops:.0f}; ratio {ratio}; memory {memory:.0f} MB")
 
 
 def main(what, sizes):
