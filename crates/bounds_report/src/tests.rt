@@ -123,8 +123,12 @@ fn answer<const N: usize>(alloc: Global, row: &Row) -> Option<Result<Printed, Pr
     }
 }
 
+fn crosses_threads<T: Send + Sync>() {}
+
 #[test]
 fn one_row(rt: HostRuntime) -> Result<(), Fail> {
+    crosses_threads::<Printed>();
+    crosses_threads::<PrintError>();
     let alloc = rt.alloc();
     for (row, expected) in PRINTED {
         assert_eq!(rt;

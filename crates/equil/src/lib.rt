@@ -79,8 +79,12 @@ mod tests {
                 == Err(EquilError::Range { row: 1, col: 1 })
     }
 
+    fn crosses_threads<T: Send + Sync>() {}
+
     #[test]
     fn tables_of_each_tile(rt: HostRuntime) -> Result<(), Fail> {
+        crosses_threads::<Working<16>>();
+        crosses_threads::<EquilError>();
         assert!(rt; each_answer::<1>(rt.alloc()));
         assert!(rt; each_answer::<3>(rt.alloc()));
         assert!(rt; each_answer::<16>(rt.alloc()));

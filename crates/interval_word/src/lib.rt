@@ -202,8 +202,11 @@ mod tests {
     use super::*;
     use std::test::Fail;
 
+    fn crosses_threads<T: Send + Sync>() {}
+
     #[test]
     fn each_call_once(rt: HostRuntime) -> Result<(), Fail> {
+        crosses_threads::<Iv>();
         let w = Iv::point(-3).add(&Iv::point(0));
         let v = Iv::point(7).sub(&Iv::point(2));
         assert_eq!(rt; Iv::new(-3, 5).map(|w: Iv| w.mid()), Some(1));

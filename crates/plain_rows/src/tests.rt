@@ -333,8 +333,14 @@ fn texts_are_read_or_refused(rt: HostRuntime) -> Result<(), Fail> {
     Ok(())
 }
 
+fn crosses_threads<T: Send + Sync>() {}
+
 #[test]
 fn texts_cut_short_are_refused(rt: HostRuntime) -> Result<(), Fail> {
+    crosses_threads::<Plain>();
+    crosses_threads::<Row>();
+    crosses_threads::<Element>();
+    crosses_threads::<Parameter>();
     let text = text_of(rt.alloc(), &TWO)?;
     for len in 0..text.len() {
         assert!(rt;

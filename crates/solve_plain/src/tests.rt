@@ -59,9 +59,13 @@ fn one_row(rt: HostRuntime) -> Result<(), Fail> {
     Ok(())
 }
 
+fn crosses_threads<T: Send + Sync>() {}
+
 // The word of 10^17 is 10^35.
 #[test]
 fn word_past_its_bound(rt: HostRuntime) -> Result<(), Fail> {
+    crosses_threads::<Solved>();
+    crosses_threads::<SolveError>();
     let zero = Dec::zero();
     let great = Dec::new(1, 17).ok_or("no matrix")?;
     let plain = file(rt.alloc(), zero, great, zero)?;

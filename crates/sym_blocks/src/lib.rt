@@ -40,8 +40,12 @@ mod tests {
         Ok(sum.get(1, 0) == Iv::point(0))
     }
 
+    fn crosses_threads<T: Send + Sync>() {}
+
     #[test]
     fn tables_of_each_tile(rt: HostRuntime) -> Result<(), Fail> {
+        crosses_threads::<SymBlock<16>>();
+        crosses_threads::<Tri<16>>();
         let alloc = rt.alloc();
         assert!(rt; read_back::<1>(alloc)?);
         assert!(rt; read_back::<3>(alloc)?);
