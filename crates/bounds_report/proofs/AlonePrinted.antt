@@ -2,19 +2,19 @@
 -- the first row that can't be printed. No numbers are printed where there is such a row.
 use Rattle.std.proofs.Common.{◌≡◌, ◌≤◌, ◌<◌, ◌^◌, inl, inr, ◌∙◌, ℕ, suc, ℤ, pos, List, length, arith, sym, ap, subst, ext_get_or}
 use Rattle.std.proofs.Math.IntN.{◌-ℤ◌}
-use Rattle.whole_numbers.specs.Words.{Word, size, word_mul}
-use Rattle.whole_numbers.proofs.Cases.{neither_less}
+use Rattle.whole_numbers.specs.Intervals.{Interval, size, interval_mul}
+use Rattle.stated_order.proofs.FirstLaws.{neither_less}
 use Rattle.whole_numbers.proofs.Sums.{total_part, total_to_same}
-use Rattle.whole_numbers.proofs.WordLaws.{sum_words_same}
+use Rattle.whole_numbers.proofs.IntervalLaws.{sum_intervals_same}
 use Rattle.decimal_e.specs.Decimals.{Decimal}
 use Rattle.sys_model.specs.Systems.{Table}
-use Rattle.chol_guess.proofs.Alone.{SameBelow}
 use Rattle.enclosure_check.proofs.AloneVectors.{SameTable, flipped_below}
 use Rattle.enclosure_check.proofs.AloneCertificates.{sub_same}
-use Rattle.bounds_report.specs.Printing.{IsPrintable, working_difference, DifferencesFit, residual_word, lower_of, upper_of, estimate_of, numbers_at, ArePrinted}
+use Rattle.bounds_report.specs.Printing.{IsPrintable, working_difference, DifferencesFit, estimate_residual, lower_of, upper_of, estimate_of, numbers_at, ArePrinted}
 use Rattle.bounds_report.specs.Refusals.{IsFirstUnprintable, IsFirstFar, IsPrintRefused}
 use Rattle.bounds_report.specs.declared.PrintError.TheVariants.{Range}
 use Rattle.bounds_report.specs.declared.numbers.Printed.{Printed}
+use Rattle.whole_numbers.specs.Lists.{SameBelow}
 
 abbrev pub SameSizes : ℕ → (ℕ → ℕ) → (ℕ → ℕ) → Type 0
 SameSizes n w v = (i : ℕ) → i < n → w i ≡ v i
@@ -38,8 +38,8 @@ row_numbers_same : (x0 : Decimal) (e f y z : ℤ) (w v r s : ℕ) → e ≡ f �
 row_numbers_same x0 e f y z w v r s same_e same_y same_w same_r =
     ap (λ x. row_numbers x0 x y w r) same_e ∙ ap (λ x. row_numbers x0 f x w r) same_y ∙ ap (λ x. row_numbers x0 f z x r) same_w ∙ ap (λ x. row_numbers x0 f z v x) same_r
 
-product_same : (a b w v : Word) → a ≡ b → w ≡ v → word_mul a w ≡ word_mul b v
-product_same a b w v e d = ap (λ x. word_mul x w) e ∙ ap (λ x. word_mul b x) d
+product_same : (a b w v : Interval) → a ≡ b → w ≡ v → interval_mul a w ≡ interval_mul b v
+product_same a b w v e d = ap (λ x. interval_mul x w) e ∙ ap (λ x. interval_mul b x) d
 
 -- two lists of n numbers with equal numbers are equal
 lists_same : (n : ℕ) (ps qs : List Printed) → length ps ≡ n → length qs ≡ n → ((i : ℕ) → i < n → numbers_at ps i ≡ numbers_at qs i) → ps ≡ qs
@@ -60,17 +60,17 @@ module _ (n : ℕ) (x0 : ℕ → Decimal) (e f : ℕ → ℤ) (y z : ℕ → ℤ
   fewer_differences : (k m : ℕ) → k ≤ m → DifferencesFit m e x0 y → DifferencesFit k e x0 y
   fewer_differences k m few a = omega (arith, total_part m (λ j. size (working_difference (x0 j) (e j) (y j))) k few)
 
-  residual_same : (t u : Table) (i : ℕ) → SameTable n t u → i < n → residual_word n t e x0 y i ≡ residual_word n u f x0 z i
+  residual_same : (t u : Table) (i : ℕ) → SameTable n t u → i < n → estimate_residual n t e x0 y i ≡ estimate_residual n u f x0 z i
   residual_same t u i table row =
       sub_same _ _ _ _ (table.rights i row)
-      (sum_words_same n (λ j. word_mul (t.entry i j) (working_difference (x0 j) (e j) (y j))) (λ j. word_mul (u.entry i j) (working_difference (x0 j) (f j) (z j)))
+      (sum_intervals_same n (λ j. interval_mul (t.entry i j) (working_difference (x0 j) (e j) (y j))) (λ j. interval_mul (u.entry i j) (working_difference (x0 j) (f j) (z j)))
       (λ j l. product_same _ _ _ _ (table.entries i j row l) (difference_same (x0 j) (e j) (f j) (y j) (z j) (same_e j l) (same_y j l))))
 
   pub printed_alone : (t u : Table) (ps qs : List Printed) → SameTable n t u → ArePrinted n t e x0 y w ps → ArePrinted n u f x0 z v qs → ps ≡ qs
   printed_alone t u ps qs table a b =
       lists_same n ps qs a.len b.len (λ i row.
       a.rows i row
-      ∙ row_numbers_same (x0 i) (e i) (f i) (y i) (z i) (w i) (v i) (size (residual_word n t e x0 y i)) (size (residual_word n u f x0 z i)) (same_e i row) (same_y i row) (same_w i row) (ap size (residual_same t u i table row))
+      ∙ row_numbers_same (x0 i) (e i) (f i) (y i) (z i) (w i) (v i) (size (estimate_residual n t e x0 y i)) (size (estimate_residual n u f x0 z i)) (same_e i row) (same_y i row) (same_w i row) (ap size (residual_same t u i table row))
       ∙ sym (b.rows i row))
 
   unprintable_no_printable : (row : ℕ) → IsFirstUnprintable n f x0 z v row → IsPrintable (x0 row) (e row) (y row) (w row) → ⊥

@@ -1,11 +1,11 @@
 -- The ends of a row, and of one row more.
 use Rattle.std.proofs.Common.{◌≡◌, ℕ, ℤ, ◌+◌, ◌^◌, ◌≤◌, ◌++◌, ◌∷◌, [], unsigned_abs, List, Option, Some, None, SomeIff, arith, below_more}
 use Rattle.std.proofs.lemmas.List.{length_push}
-use Rattle.equil.proofs.RowLaws.{each_push}
 use Rattle.bounds_report.specs.Printing.{low_term, high_term}
 use Rattle.bounds_report.specs.Ends.{AreLimited, AreEnds, ends_of, IsRowPrintable}
 use Rattle.bounds_report.specs.Rows.{RowLists, exponent_at, vector_at, radius_at}
 use Rattle.bounds_report.specs.declared.ends.Ends.{Ends}
+use Rattle.whole_numbers.proofs.ListLaws.{each_push}
 
 -- where the terms are small, the ends decide
 limited_ends : (r : RowLists) (i : ℕ) (o : Option Ends) → unsigned_abs (low_term (exponent_at r i) (vector_at r i) (radius_at r i)) ≤ 10 ^ 37

@@ -4,11 +4,11 @@ use Rattle.whole_numbers.proofs.EqualFractions.{same_from_product}
 use Rattle.whole_numbers.proofs.Powers as Powers
 use Rattle.whole_numbers.proofs.Ring.{*ℤ_right_comm}
 use Rattle.decimal_e.specs.Decimals.{Decimal}
-use Rattle.sys_model.specs.Systems.{System, Fractions, Table, Solves, Encloses}
+use Rattle.sys_model.specs.Systems.{System, Fractions, Table, Solves, Encloses, stack_system, LiesInStack}
 use Rattle.equil.specs.Exponents.{IsInRange}
 use Rattle.equil.specs.Scaled.{scaled_system, working_numbers, CarriesSystems}
 use Rattle.bounds_report.specs.declared.numbers.Printed.{Printed}
-use Rattle.bounds_report.specs.Bounds.{stack_system, LiesInStack, LiesBetween, AreDifferences, LeavesAtMost, AreCertified}
+use Rattle.bounds_report.specs.Bounds.{LiesBetween, AreDifferences, LeavesAtMost, AreCertified}
 use Rattle.bounds_report.specs.Printing.{working_difference, numbers_of, numbers_at, ArePrinted}
 use Rattle.bounds_report.proofs.LawSystems.{stack_solves}
 use Rattle.bounds_report.proofs.LawBetween.{lies_between}

@@ -6,14 +6,14 @@ use Rattle.std.proofs.Math.Nat.{mul-pos}
 use Rattle.std.proofs.Math.Decide.{ℕ_discrete}
 use Rattle.std.proofs.lemmas.Int.{ints}
 use Rattle.std.proofs.lemmas.Bool.Decides.{nat_tests}
-use Rattle.whole_numbers.specs.Words.{Word, Holds, size, point_word, word_sub}
+use Rattle.whole_numbers.specs.Intervals.{Interval, Holds, size, point_interval, interval_sub}
 use Rattle.whole_numbers.proofs.EqualFractions.{holds_same, holds_difference_of}
 use Rattle.whole_numbers.proofs.Powers as Powers
 use Rattle.whole_numbers.proofs.Ring.{ring, *ℤ_assoc, *ℤ_right_comm}
-use Rattle.whole_numbers.proofs.WordLaws.{holds_point}
+use Rattle.whole_numbers.proofs.IntervalLaws.{holds_point}
 use Rattle.decimal_e.specs.Decimals.{Decimal}
 use Rattle.decimal_e.specs.Fractions.{numerator, denominator}
-use Rattle.decimal_e.specs.Scales.{decimal_word}
+use Rattle.decimal_e.specs.Scales.{decimal_interval}
 use Rattle.decimal_e.proofs.Values.{ten_below_some}
 use Rattle.sys_model.specs.Systems.{Fractions}
 use Rattle.sys_model.proofs.Exist.{with_last, at_last, at_other}
@@ -22,7 +22,7 @@ use Rattle.equil.specs.Scaled.{ten_power}
 use Rattle.bounds_report.specs.Bounds.{AreDifferences}
 use Rattle.bounds_report.specs.Printing.{difference, estimate_of, working_difference}
 use Rattle.bounds_report.specs.declared.numbers.Printed.{Printed}
-use Rattle.bounds_report.proofs.LawWords.{holds_to_power, decimal_word_holds}
+use Rattle.bounds_report.proofs.LawWords.{holds_to_power, decimal_interval_holds}
 
 -- how far the estimate is from x0, over 10^16 times the denominator of x0
 abbrev pub away : Decimal → ℤ → ℤ
@@ -36,23 +36,23 @@ far_crossed v a d t k =
     rw (l, r) (simp ring (omega (arith, ints)))
 
 -- whether the word has the ends v
-abbrev is_exactly : Word → ℤ → Bool
-is_exactly w v = nat_le (size (word_sub w (point_word v))) 0
+abbrev is_exactly : Interval → ℤ → Bool
+is_exactly w v = nat_le (size (interval_sub w (point_interval v))) 0
 
-none_left : (w : Word) (v : ℤ) → is_exactly w v ≡ true → (w.lo ≡ v) × (w.hi ≡ v)
-none_left w v t = let z : size (word_sub w (point_word v)) ≤ 0 = le_from_true _ 0 t in (omega (arith, ints), omega (arith, ints))
+none_left : (w : Interval) (v : ℤ) → is_exactly w v ≡ true → (w.lo ≡ v) × (w.hi ≡ v)
+none_left w v t = let z : size (interval_sub w (point_interval v)) ≤ 0 = le_from_true _ 0 t in (omega (arith, ints), omega (arith, ints))
   where
     le_from_true : (a b : ℕ) → nat_le a b ≡ true → a ≤ b
     le_from_true a b t = grind (arith, nat_tests)
 
-exactly_zero : (w : Word) (v x : ℤ) (q : ℕ) → is_exactly w v ≡ true → Holds w x q → v *ℤ pos q -ℤ x ≡ pos 0
+exactly_zero : (w : Interval) (v x : ℤ) (q : ℕ) → is_exactly w v ≡ true → Holds w x q → v *ℤ pos q -ℤ x ≡ pos 0
 exactly_zero w v x q t h =
     let e = none_left w v t in
     let l = ap (λ z. z *ℤ pos q) e.0 in
     let r = ap (λ z. z *ℤ pos q) e.1 in
     omega (arith, ints, l, r, h.above, h.below)
 
-holds_choice : (b : Bool) (w v : Word) (x : ℤ) (q : ℕ) → (b ≡ true → Holds w x q) → (b ≡ false → Holds v x q) → Holds (if b then w else v) x q
+holds_choice : (b : Bool) (w v : Interval) (x : ℤ) (q : ℕ) → (b ≡ true → Holds w x q) → (b ≡ false → Holds v x q) → Holds (if b then w else v) x q
 holds_choice true w v x q h k = h refl
 holds_choice false w v x q h k = k refl
 
@@ -60,12 +60,12 @@ holds_choice false w v x q h k = k refl
 difference_holds : (x0 : Decimal) (v : ℤ) → Holds (difference x0 v) (away x0 v *ℤ pos (10 ^ 4)) (denominator x0)
 difference_holds x0 v =
     let d = denominator x0 in
-    let none = point_word (pos 0) in
-    let far = word_sub (point_word (v *ℤ pos (10 ^ 4))) (decimal_word x0 (pos 20)) in
-    holds_choice (is_exactly (decimal_word x0 (pos 16)) v) none far (away x0 v *ℤ pos (10 ^ 4)) d
-    (λ t. let z = ap (λ y. y *ℤ pos (10 ^ 4)) (exactly_zero (decimal_word x0 (pos 16)) v (numerator x0 *ℤ pos (10 ^ 16)) d t (decimal_word_holds x0 16)) in
+    let none = point_interval (pos 0) in
+    let far = interval_sub (point_interval (v *ℤ pos (10 ^ 4))) (decimal_interval x0 (pos 20)) in
+    holds_choice (is_exactly (decimal_interval x0 (pos 16)) v) none far (away x0 v *ℤ pos (10 ^ 4)) d
+    (λ t. let z = ap (λ y. y *ℤ pos (10 ^ 4)) (exactly_zero (decimal_interval x0 (pos 16)) v (numerator x0 *ℤ pos (10 ^ 16)) d t (decimal_interval_holds x0 16)) in
     subst (λ y. Holds none y d) (sym z) (record { above = omega (arith, ints); below = omega (arith, ints) }))
-    (λ t. let h = holds_difference_of (point_word (v *ℤ pos (10 ^ 4))) (decimal_word x0 (pos 20)) ((v *ℤ pos (10 ^ 4)) *ℤ pos 1) (numerator x0 *ℤ pos (10 ^ 20)) 1 d (holds_point (v *ℤ pos (10 ^ 4)) 1) (decimal_word_holds x0 20) in
+    (λ t. let h = holds_difference_of (point_interval (v *ℤ pos (10 ^ 4))) (decimal_interval x0 (pos 20)) ((v *ℤ pos (10 ^ 4)) *ℤ pos 1) (numerator x0 *ℤ pos (10 ^ 20)) 1 d (holds_point (v *ℤ pos (10 ^ 4)) 1) (decimal_interval_holds x0 20) in
     let one : 1 * d ≡ d = omega arith in
     subst (λ y. Holds far y d) (far_crossed v (numerator x0) d (10 ^ 16) (10 ^ 4)) (rw one at h))
 

@@ -4,34 +4,33 @@ use Rattle.std.proofs.Math.IntN.{◌-ℤ◌}
 use Rattle.std.proofs.Math.Nat.{mul-le-mul_right, le_of_mul-le-mul_left, mul-pos}
 use Rattle.std.proofs.lemmas.Int.{ints, unsigned_abs-mul}
 use Rattle.std.proofs.lemmas.Nat.{pow-add}
-use Rattle.whole_numbers.specs.Words.{Word, Holds, size, word_sub, word_mul, sum_words}
+use Rattle.whole_numbers.specs.Intervals.{Interval, Holds, size, interval_sub, interval_mul, sum_intervals}
 use Rattle.whole_numbers.proofs.EqualFractions.{holds_times}
 use Rattle.whole_numbers.proofs.Fractions.{holds_mul}
 use Rattle.whole_numbers.proofs.Powers as Powers
-use Rattle.whole_numbers.proofs.WordLaws.{holds_size, holds_sub, holds_sum}
-use Rattle.decimal_e.specs.Decimals.{ten_above, ten_below}
-use Rattle.sys_model.specs.Systems.{System, Fractions, Table, LiesIn, row_by, residual}
+use Rattle.whole_numbers.proofs.IntervalLaws.{holds_size, holds_sub, holds_sum}
+use Rattle.sys_model.specs.Systems.{System, Fractions, Table, LiesIn, row_by, residual, stack_system}
 use Rattle.equil.specs.Exponents.{IsInRange}
 use Rattle.equil.specs.Scaled.{scaled_system, working_numbers}
-use Rattle.bounds_report.specs.Bounds.{stack_system}
 use Rattle.bounds_report.proofs.LawSystems.{row_power, stack_residual, working_residual}
 use Rattle.bounds_report.proofs.LawWords.{ten_apart}
+use Rattle.whole_numbers.specs.Scaling.{ten_above, ten_below}
 
 -- what the words z leave of the right side in row i
-abbrev pub left_by : ℕ → Table → (ℕ → Word) → ℕ → Word
-left_by n t z i = word_sub (t.right i) (sum_words n (λ j. word_mul (t.entry i j) (z j)))
+abbrev pub left_by : ℕ → Table → (ℕ → Interval) → ℕ → Interval
+left_by n t z i = interval_sub (t.right i) (sum_intervals n (λ j. interval_mul (t.entry i j) (z j)))
 
 abs_swapped : (a b : ℤ) → unsigned_abs (a -ℤ b) ≡ unsigned_abs (b -ℤ a)
 abs_swapped a b = omega (arith, ints)
 
 -- words that hold the fractions of y leave at least its residual
-left_size : (n : ℕ) (t : Table) (T : System) (y : Fractions) (z : ℕ → Word) (i : ℕ) → LiesIn n t T → ((j : ℕ) → j < n → Holds (z j) (y.x j) y.s) → i < n
+left_size : (n : ℕ) (t : Table) (T : System) (y : Fractions) (z : ℕ → Interval) (i : ℕ) → LiesIn n t T → ((j : ℕ) → j < n → Holds (z j) (y.x j) y.s) → i < n
     → unsigned_abs (residual n T y i) ≤ size (left_by n t z i) * (T.q * y.s)
 left_size n t T y z i lies held row =
     let q = T.q * y.s in
-    let sum = holds_sum n (λ j. word_mul (t.entry i j) (z j)) (λ j. T.a i j *ℤ y.x j) q (λ j l. holds_mul (t.entry i j) (z j) (T.a i j) (y.x j) T.q y.s (lies.entries i j row l) (held j l)) in
+    let sum = holds_sum n (λ j. interval_mul (t.entry i j) (z j)) (λ j. T.a i j *ℤ y.x j) q (λ j l. holds_mul (t.entry i j) (z j) (T.a i j) (y.x j) T.q y.s (lies.entries i j row l) (held j l)) in
     let right = holds_times (t.right i) (T.c i) T.q y.s (lies.rights i row) in
-    let sized = holds_size (left_by n t z i) (T.c i *ℤ pos y.s -ℤ row_by n T.a i y.x) q (holds_sub (t.right i) (sum_words n (λ j. word_mul (t.entry i j) (z j))) (T.c i *ℤ pos y.s) (row_by n T.a i y.x) q right sum) in
+    let sized = holds_size (left_by n t z i) (T.c i *ℤ pos y.s -ℤ row_by n T.a i y.x) q (holds_sub (t.right i) (sum_intervals n (λ j. interval_mul (t.entry i j) (z j))) (T.c i *ℤ pos y.s) (row_by n T.a i y.x) q right sum) in
     rw (abs_swapped (row_by n T.a i y.x) (T.c i *ℤ pos y.s)) sized
 
 -- the powers of ten of the systems, taken together
@@ -53,7 +52,7 @@ working_size n e S v i range row =
     ap unsigned_abs r ∙ one ∙ ap (λ z. row_power (e i) * unsigned_abs z) s ∙ ap (λ z. row_power (e i) * z) two ∙ omega arith
 
 -- from the working words and words that hold the working numbers
-pub leaves_at_most : (n : ℕ) (w : Table) (e : ℕ → ℤ) (S : System) (v : Fractions) (z : ℕ → Word) (i : ℕ) → ((j : ℕ) → j < n → IsInRange (e j)) → LiesIn n w (scaled_system (stack_system S) e)
+pub leaves_at_most : (n : ℕ) (w : Table) (e : ℕ → ℤ) (S : System) (v : Fractions) (z : ℕ → Interval) (i : ℕ) → ((j : ℕ) → j < n → IsInRange (e j)) → LiesIn n w (scaled_system (stack_system S) e)
     → ((j : ℕ) → j < n → Holds (z j) ((working_numbers v e).x j) v.s) → i < n
     → unsigned_abs (residual n S v i) * ten_below (e i -ℤ pos 30) ≤ (size (left_by n w z i) * ten_above (e i -ℤ pos 30)) * (S.q * v.s)
 leaves_at_most n w e S v z i range lies held row =

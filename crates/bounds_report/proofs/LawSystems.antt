@@ -5,11 +5,10 @@ use Rattle.std.proofs.lemmas.Int.{ints}
 use Rattle.whole_numbers.specs.Sum.{sum_to}
 use Rattle.whole_numbers.proofs.Ring.{ring}
 use Rattle.whole_numbers.proofs.Sums.{sum_to_same, sum_to-*ℤ}
-use Rattle.sys_model.specs.Systems.{System, Fractions, Solves, residual}
+use Rattle.sys_model.specs.Systems.{System, Fractions, Solves, residual, stack_system}
 use Rattle.equil.specs.Exponents.{IsInRange}
 use Rattle.equil.specs.Scaled.{ten_power, scaled_system, working_numbers}
 use Rattle.equil.proofs.ScaledLaws.{ten_powers, product_apart}
-use Rattle.bounds_report.specs.Bounds.{stack_system}
 
 -- each term and the right side times r
 residual_times : (n : ℕ) (f g : ℕ → ℤ) (r c s : ℤ) → ((j : ℕ) → j < n → f j ≡ r *ℤ g j) → sum_to n f -ℤ (c *ℤ r) *ℤ s ≡ r *ℤ (sum_to n g -ℤ c *ℤ s)

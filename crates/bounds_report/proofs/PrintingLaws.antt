@@ -1,8 +1,8 @@
 -- The printed numbers, from the ends and the differences.
 use Rattle.std.proofs.Common.{◌≡◌, ℕ, ℤ, pos, ◌<◌, List, length, ap, ◌∙◌}
 use Rattle.std.proofs.Math.IntN.{◌-ℤ◌}
-use Rattle.whole_numbers.specs.Words.{Word, size, word_sub, word_mul, sum_words}
-use Rattle.whole_numbers.proofs.WordLaws.{sum_words_same}
+use Rattle.whole_numbers.specs.Intervals.{Interval, size, interval_sub, interval_mul, sum_intervals}
+use Rattle.whole_numbers.proofs.IntervalLaws.{sum_intervals_same}
 use Rattle.sys_model.specs.Systems.{Table}
 use Rattle.bounds_report.specs.Differences.{difference_of, word_at, AreDifferencesOf}
 use Rattle.bounds_report.specs.Ends.{AreEnds, ends_of}
@@ -13,21 +13,21 @@ use Rattle.bounds_report.specs.declared.ends.Ends.{Ends}
 use Rattle.bounds_report.specs.declared.numbers.Printed.{Printed}
 
 -- a list with the differences of the rows makes of a row of a table what they make of it
-sum_is : (n : ℕ) (t : Table) (r : RowLists) (zs : List Word) (i : ℕ) → AreDifferencesOf n r zs → row_sum n t zs i ≡ sum_words n (λ j. word_mul (t.entry i j) (difference_of r j))
+sum_is : (n : ℕ) (t : Table) (r : RowLists) (zs : List Interval) (i : ℕ) → AreDifferencesOf n r zs → row_sum n t zs i ≡ sum_intervals n (λ j. interval_mul (t.entry i j) (difference_of r j))
 sum_is n t r zs i done =
-    sum_words_same n (λ j. word_mul (t.entry i j) (word_at zs j)) (λ j. word_mul (t.entry i j) (difference_of r j)) (λ j l. ap (λ z. word_mul (t.entry i j) z) (done.rows j l))
+    sum_intervals_same n (λ j. interval_mul (t.entry i j) (word_at zs j)) (λ j. interval_mul (t.entry i j) (difference_of r j)) (λ j l. ap (λ z. interval_mul (t.entry i j) z) (done.rows j l))
 
 abbrev with_residual : Ends → ℕ → ℤ → Printed
 with_residual e residual place = record { estimate = e.estimate; lower = e.lower; upper = e.upper; residual = residual; place = place }
 
-numbers_are : (n : ℕ) (t : Table) (r : RowLists) (es : List Ends) (zs : List Word) (i : ℕ) → i < n → AreEnds n r es → AreDifferencesOf n r zs
+numbers_are : (n : ℕ) (t : Table) (r : RowLists) (es : List Ends) (zs : List Interval) (i : ℕ) → i < n → AreEnds n r es → AreDifferencesOf n r zs
     → numbers_from n t (exponent_at r) es zs i ≡ numbers_of n t (exponent_at r) (apriori_at r) (vector_at r) (radius_at r) i
 numbers_are n t r es zs i h ends done =
     let place = exponent_at r i -ℤ pos 30 in
     ap (λ e. with_residual e (residual_size n t zs i) place) (ends.rows i h)
-    ∙ ap (λ s. with_residual (ends_of r i) (size (word_sub (t.right i) s)) place) (sum_is n t r zs i done)
+    ∙ ap (λ s. with_residual (ends_of r i) (size (interval_sub (t.right i) s)) place) (sum_is n t r zs i done)
 
-pub all_printed : (n : ℕ) (t : Table) (r : RowLists) (es : List Ends) (zs : List Word) (ps : List Printed) → AreEnds n r es → AreDifferencesOf n r zs → length ps ≡ n
+pub all_printed : (n : ℕ) (t : Table) (r : RowLists) (es : List Ends) (zs : List Interval) (ps : List Printed) → AreEnds n r es → AreDifferencesOf n r zs → length ps ≡ n
     → ((i : ℕ) → i < n → numbers_at ps i ≡ numbers_from n t (exponent_at r) es zs i) → AreRowsPrinted n t r ps
 all_printed n t r es zs ps ends done len rows = record {
   printable = ends.printable;

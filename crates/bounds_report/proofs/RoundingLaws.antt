@@ -4,10 +4,10 @@ use Rattle.std.proofs.Math.Nat.{div-mul-le_self}
 use Rattle.std.proofs.lemmas.Int.{ints}
 use Rattle.std.proofs.lemmas.Bool.Decides.{nat_tests}
 use Rattle.whole_numbers.specs.Least.{least_below}
-use Rattle.whole_numbers.proofs.Powers.{ten_le, ten_above}
+use Rattle.whole_numbers.proofs.Powers.{ten_le, ten_pow_above}
 use Rattle.bounds_report.specs.Digits.{rounded_at, to_15_digits}
 
-pub ruleset ten_rules = (ten_le, ten_above)
+pub ruleset ten_rules = (ten_le, ten_pow_above)
 
 -- a number of at most 34 digits has 15 before its last 19
 pub digits_last : (n k : ℕ) → n ≤ 10 ^ 33 → 19 ≤ k → k ≤ 19 → nat_lt n (10 ^ (15 + k)) ≡ true

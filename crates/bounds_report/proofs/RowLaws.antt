@@ -4,7 +4,7 @@ use Rattle.whole_numbers.proofs.Sums.{le-total_to}
 use Rattle.decimal_e.specs.Decimals.{Decimal}
 use Rattle.decimal_e.specs.Fractions.{IsAtMost}
 use Rattle.equil.specs.Rows.{AllInRange}
-use Rattle.chol_factor.specs.Squares.{at}
+use Rattle.whole_numbers.specs.Lists.{at}
 use Rattle.enclosure_check.specs.Vectors.{IsSmall}
 use Rattle.bounds_report.specs.Printing.{decimal_at}
 use Rattle.bounds_report.specs.Rows.{AreRows}

@@ -4,14 +4,14 @@ use Rattle.std.proofs.Math.Nat.{mul-le-mul, mul-le-mul_right}
 use Rattle.std.proofs.Math.Decide.{dec_le}
 use Rattle.std.proofs.lemmas.Nat.{pow-add}
 use Rattle.std.proofs.lemmas.Int.{ints, to_z-of_z, unsigned_abs-mul}
-use Rattle.whole_numbers.specs.Words.{size}
-use Rattle.whole_numbers.specs.Scaling.{floor_scaled, ceil_scaled}
-use Rattle.whole_numbers.proofs.Powers.{ten_le, ten_above}
+use Rattle.whole_numbers.specs.Intervals.{size}
+use Rattle.whole_numbers.specs.Scaling.{floor_scaled, ceil_scaled, ten_above as ten_over, ten_below}
+use Rattle.whole_numbers.proofs.Powers.{ten_le, ten_pow_above}
 use Rattle.whole_numbers.proofs.Scaled.{floor_scaled_le_ceil}
 use Rattle.whole_numbers.proofs.Sizes.{floor_small, ceil_small, quotient_small}
-use Rattle.decimal_e.specs.Decimals.{Decimal, ten_above as ten_over, ten_below}
+use Rattle.decimal_e.specs.Decimals.{Decimal}
 use Rattle.decimal_e.specs.Fractions.{IsAtMost}
-use Rattle.decimal_e.specs.Scales.{decimal_word}
+use Rattle.decimal_e.specs.Scales.{decimal_interval}
 
 -- ---- z * 10^e is at most m in size, so z * 10^(e + k) is at most m * 10^k
 size_times : (z : ℤ) (m : ℕ) → unsigned_abs (z *ℤ pos m) ≡ unsigned_abs z * m
@@ -42,7 +42,7 @@ floor_below z n k m h =
           rw e (scaled_over z (suc n) (k - suc n) k m (omega arith) h)
       | no l ↦
           let e : negsuc n +ℤ pos k ≡ negsuc (n - k) = omega (arith, ints) in
-          rw e (floor_small z (10 ^ suc (n - k)) (m * 10 ^ k) (ten_above (suc (n - k))) (scaled_under z (suc n) (suc (n - k)) k m (omega arith) h))
+          rw e (floor_small z (10 ^ suc (n - k)) (m * 10 ^ k) (ten_pow_above (suc (n - k))) (scaled_under z (suc n) (suc (n - k)) k m (omega arith) h))
     ]
 
 ceil_below : (z : ℤ) (n k m : ℕ) → unsigned_abs z ≤ m * 10 ^ suc n → unsigned_abs (ceil_scaled z (negsuc n +ℤ pos k)) ≤ m * 10 ^ k
@@ -53,7 +53,7 @@ ceil_below z n k m h =
           rw e (scaled_over z (suc n) (k - suc n) k m (omega arith) h)
       | no l ↦
           let e : negsuc n +ℤ pos k ≡ negsuc (n - k) = omega (arith, ints) in
-          rw e (ceil_small z (10 ^ suc (n - k)) (m * 10 ^ k) (ten_above (suc (n - k))) (scaled_under z (suc n) (suc (n - k)) k m (omega arith) h))
+          rw e (ceil_small z (10 ^ suc (n - k)) (m * 10 ^ k) (ten_pow_above (suc (n - k))) (scaled_under z (suc n) (suc (n - k)) k m (omega arith) h))
     ]
 
 floor_at_most : (z e : ℤ) (k m : ℕ) → unsigned_abs (z *ℤ pos (ten_over e)) ≤ m * ten_below e → unsigned_abs (floor_scaled z (e +ℤ pos k)) ≤ m * 10 ^ k
@@ -65,7 +65,7 @@ ceil_at_most z (pos n) k m h = scaled_up z n k m (omega (arith, h))
 ceil_at_most z (negsuc n) k m h = ceil_below z n k m (omega (arith, ints, h))
 
 -- the word of an a priori value
-pub apriori_small : (d : Decimal) (k : ℤ) → IsAtMost (10 ^ 12) d → pos 0 ≤ℤ k → k ≤ℤ pos 20 → size (decimal_word d k) ≤ 10 ^ 32
+pub apriori_small : (d : Decimal) (k : ℤ) → IsAtMost (10 ^ 12) d → pos 0 ≤ℤ k → k ≤ℤ pos 20 → size (decimal_interval d k) ≤ 10 ^ 32
 apriori_small d (pos k) h l m =
     let t = ten_le k 20 (omega (arith, ints)) in
     let f = floor_at_most d.mant d.exp k (10 ^ 12) h in
@@ -87,6 +87,6 @@ raised_small y k h l =
 
 pub term_small : (y z : ℤ) → unsigned_abs y ≤ 2 ^ 64 → z ≤ℤ pos 13 → unsigned_abs (floor_scaled y z) ≤ 2 ^ 64 * 10 ^ 13
 term_small y (pos k) h l = raised_small y k h (omega (arith, ints))
-term_small y (negsuc k) h l = let t = quotient_small y (10 ^ suc k) (ten_above (suc k)) in omega (arith, t)
+term_small y (negsuc k) h l = let t = quotient_small y (10 ^ suc k) (ten_pow_above (suc k)) in omega (arith, t)
 
 pub ruleset middle_rules = (to_z-of_z, term_small)

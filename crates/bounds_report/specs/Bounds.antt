@@ -3,18 +3,11 @@
 -- Fractions are compared by cross-multiplication: no scale, no interval and no rounding occurs in an exact system.
 -- Source: the normal equation N (x - x0) = b of Brockmann 1997, and the enclosure test of Rump 2010.
 use Rattle.std.specs.Prelude.{◌≡◌, ◌≤◌, ◌<◌, ◌*◌, ◌^◌, ℕ, ℤ, pos, ◌+ℤ◌, ◌-ℤ◌, ◌*ℤ◌, ◌≤ℤ◌, unsigned_abs}
-use Rattle.decimal_e.specs.Decimals.{Decimal, ten_above, ten_below}
+use Rattle.decimal_e.specs.Decimals.{Decimal}
 use Rattle.decimal_e.specs.Fractions.{numerator, denominator}
-use Rattle.sys_model.specs.Systems.{System, Fractions, Table, LiesIn, Solves, residual}
+use Rattle.sys_model.specs.Systems.{System, Fractions, Table, LiesIn, Solves, residual, LiesInStack}
 use Rattle.bounds_report.specs.declared.numbers.Printed.{Printed}
-
--- a system times 10^18: stack words hold its fractions
-abbrev pub stack_system : System → System
-stack_system S = record { q = S.q; a = λ i j. S.a i j *ℤ pos (10 ^ 18); c = λ i. S.c i *ℤ pos (10 ^ 18) }
-
--- the system lies in the stack words of n rows
-abbrev pub LiesInStack : ℕ → Table → System → Type 0
-LiesInStack n t S = LiesIn n t (stack_system S)
+use Rattle.whole_numbers.specs.Scaling.{ten_above, ten_below}
 
 -- 10^16 (x0 + x / s), over the denominator of x0 times s
 abbrev pub printed_scale : Decimal → ℤ → ℕ → ℤ

@@ -4,10 +4,10 @@
 -- row i is 10^-(12 + e_i). The scales and bounds are this program's own.
 use Rattle.std.specs.Prelude.{◌≡◌, ◌≤◌, ◌<◌, ◌^◌, ℕ, ℤ, pos, ◌+ℤ◌, ◌-ℤ◌, ◌*ℤ◌, nat_le, if◌then◌else◌, unsigned_abs, List, length, slice_index_or}
 use Rattle.whole_numbers.specs.Sum.{total_to}
-use Rattle.whole_numbers.specs.Words.{Word, size, point_word, word_sub, word_mul, sum_words}
-use Rattle.whole_numbers.specs.Scaling.{floor_scaled, ceil_scaled, word_scale10}
+use Rattle.whole_numbers.specs.Intervals.{Interval, size, point_interval, interval_sub, interval_mul, sum_intervals}
+use Rattle.whole_numbers.specs.Scaling.{floor_scaled, ceil_scaled, interval_scale10}
 use Rattle.decimal_e.specs.Decimals.{Decimal}
-use Rattle.decimal_e.specs.Scales.{decimal_word}
+use Rattle.decimal_e.specs.Scales.{decimal_interval}
 use Rattle.sys_model.specs.Systems.{Table}
 use Rattle.bounds_report.specs.Digits.{to_15_digits}
 use Rattle.bounds_report.specs.declared.numbers.Printed.{Printed}
@@ -25,13 +25,13 @@ high_term e y w = ceil_scaled (y +ℤ pos w) (pos 4 -ℤ e)
 
 -- the printed bounds and the printed estimate of one row
 abbrev pub lower_of : Decimal → ℤ → ℤ → ℕ → ℤ
-lower_of x0 e y w = (decimal_word x0 (pos 16)).lo +ℤ low_term e y w
+lower_of x0 e y w = (decimal_interval x0 (pos 16)).lo +ℤ low_term e y w
 
 abbrev pub upper_of : Decimal → ℤ → ℤ → ℕ → ℤ
-upper_of x0 e y w = (decimal_word x0 (pos 16)).hi +ℤ high_term e y w
+upper_of x0 e y w = (decimal_interval x0 (pos 16)).hi +ℤ high_term e y w
 
 abbrev pub estimate_of : Decimal → ℤ → ℤ → ℤ
-estimate_of x0 e y = to_15_digits ((decimal_word x0 (pos 16)).lo +ℤ floor_scaled y (pos 4 -ℤ e))
+estimate_of x0 e y = to_15_digits ((decimal_interval x0 (pos 16)).lo +ℤ floor_scaled y (pos 4 -ℤ e))
 
 -- they and their terms are small enough to be printed
 pub record IsPrintable (x0 : Decimal) (e y : ℤ) (w : ℕ) : Type 0 where
@@ -42,22 +42,22 @@ pub record IsPrintable (x0 : Decimal) (e y : ℤ) (w : ℕ) : Type 0 where
   pub estimate : unsigned_abs (estimate_of x0 e y) ≤ 10 ^ 33
 
 -- the word of the estimate minus x0 at 10^20: zero where the estimate is x0
-abbrev pub difference : Decimal → ℤ → Word
+abbrev pub difference : Decimal → ℤ → Interval
 difference x0 estimate =
-    if nat_le (size (word_sub (decimal_word x0 (pos 16)) (point_word estimate))) 0 then point_word (pos 0)
-    else word_sub (point_word (estimate *ℤ pos (10 ^ 4))) (decimal_word x0 (pos 20))
+    if nat_le (size (interval_sub (decimal_interval x0 (pos 16)) (point_interval estimate))) 0 then point_interval (pos 0)
+    else interval_sub (point_interval (estimate *ℤ pos (10 ^ 4))) (decimal_interval x0 (pos 20))
 
 -- that word in units of the working table
-abbrev pub working_difference : Decimal → ℤ → ℤ → Word
-working_difference x0 e y = word_scale10 (difference x0 (estimate_of x0 e y)) (e -ℤ pos 8)
+abbrev pub working_difference : Decimal → ℤ → ℤ → Interval
+working_difference x0 e y = interval_scale10 (difference x0 (estimate_of x0 e y)) (e -ℤ pos 8)
 
 -- the sizes of the first k working differences add up to at most 2^65
 abbrev pub DifferencesFit : ℕ → (ℕ → ℤ) → (ℕ → Decimal) → (ℕ → ℤ) → Type 0
 DifferencesFit k e x0 y = total_to k (λ j. size (working_difference (x0 j) (e j) (y j))) ≤ 2 ^ 65
 
 -- what the estimates leave of the right side in row i
-abbrev pub residual_word : ℕ → Table → (ℕ → ℤ) → (ℕ → Decimal) → (ℕ → ℤ) → ℕ → Word
-residual_word n t e x0 y i = word_sub (t.right i) (sum_words n (λ j. word_mul (t.entry i j) (working_difference (x0 j) (e j) (y j))))
+abbrev pub estimate_residual : ℕ → Table → (ℕ → ℤ) → (ℕ → Decimal) → (ℕ → ℤ) → ℕ → Interval
+estimate_residual n t e x0 y i = interval_sub (t.right i) (sum_intervals n (λ j. interval_mul (t.entry i j) (working_difference (x0 j) (e j) (y j))))
 
 -- the numbers of row i, with the residual in units of 10^(e_i - 30)
 abbrev pub numbers_of : ℕ → Table → (ℕ → ℤ) → (ℕ → Decimal) → (ℕ → ℤ) → (ℕ → ℕ) → ℕ → Printed
@@ -65,7 +65,7 @@ numbers_of n t e x0 y w i = record {
   estimate = estimate_of (x0 i) (e i) (y i);
   lower = lower_of (x0 i) (e i) (y i) (w i);
   upper = upper_of (x0 i) (e i) (y i) (w i);
-  residual = size (residual_word n t e x0 y i);
+  residual = size (estimate_residual n t e x0 y i);
   place = e i -ℤ pos 30;
 }
 

@@ -1,7 +1,7 @@
 -- What a list of differences leaves of the right side of a table, and the printed numbers with it.
 use Rattle.std.specs.Prelude.{◌≡◌, ◌≤◌, ◌^◌, ℕ, ℤ, pos, ◌-ℤ◌, List, length}
 use Rattle.whole_numbers.specs.Sum.{total_to}
-use Rattle.whole_numbers.specs.Words.{Word, size, word_sub, word_mul, sum_words}
+use Rattle.whole_numbers.specs.Intervals.{Interval, size, interval_sub, interval_mul, sum_intervals}
 use Rattle.sys_model.specs.Systems.{Table}
 use Rattle.bounds_report.specs.Differences.{word_at}
 use Rattle.bounds_report.specs.Ends.{ends_at}
@@ -13,20 +13,20 @@ use Rattle.bounds_report.specs.declared.numbers.Printed.{Printed}
 use Rattle.bounds_report.specs.declared.PrintError.{PrintError}
 
 -- a list of n words, with sizes of at most 2^65 in sum
-pub record AreSmallWords (n : ℕ) (zs : List Word) : Type 0 where
+pub record AreSmallIntervals (n : ℕ) (zs : List Interval) : Type 0 where
   pub len : length zs ≡ n
   pub sum : total_to n (λ j. size (word_at zs j)) ≤ 2 ^ 65
 
 -- what they make of row i of a table
-abbrev pub row_sum : ℕ → Table → List Word → ℕ → Word
-row_sum n t zs i = sum_words n (λ j. word_mul (t.entry i j) (word_at zs j))
+abbrev pub row_sum : ℕ → Table → List Interval → ℕ → Interval
+row_sum n t zs i = sum_intervals n (λ j. interval_mul (t.entry i j) (word_at zs j))
 
 -- the greatest size of what they leave of its right side
-abbrev pub residual_size : ℕ → Table → List Word → ℕ → ℕ
-residual_size n t zs i = size (word_sub (t.right i) (row_sum n t zs i))
+abbrev pub residual_size : ℕ → Table → List Interval → ℕ → ℕ
+residual_size n t zs i = size (interval_sub (t.right i) (row_sum n t zs i))
 
 -- the ends of a list with their residual
-abbrev pub numbers_from : ℕ → Table → (ℕ → ℤ) → List Ends → List Word → ℕ → Printed
+abbrev pub numbers_from : ℕ → Table → (ℕ → ℤ) → List Ends → List Interval → ℕ → Printed
 numbers_from n t e es zs i = record {
   estimate = (ends_at es i).estimate;
   lower = (ends_at es i).lower;

@@ -4,7 +4,7 @@ use Rattle.decimal_e.specs.Decimals.{Decimal}
 use Rattle.decimal_e.specs.Fractions.{IsAtMost}
 use Rattle.equil.specs.Exponents.{IsInRange}
 use Rattle.equil.specs.Tables.{exponent_of}
-use Rattle.chol_factor.specs.Squares.{at}
+use Rattle.whole_numbers.specs.Lists.{at}
 use Rattle.bounds_report.specs.Printing.{decimal_at}
 
 -- the exponents, the a priori values, the start vector and the radii, row by row

@@ -1,7 +1,7 @@
 //! The working differences of the estimates from the a priori values.
 
 ghost use Rattle.std.specs.Prelude.{◌≡◌, ◌≤◌, ◌<◌, ◌^◌, ℤ, pos, ◌-ℤ◌, ◌*ℤ◌, nat_le, unsigned_abs, SomeIff, IfOk, IfErr};
-ghost use Rattle.whole_numbers.specs.Words.{size, point_word, word_sub};
+ghost use Rattle.whole_numbers.specs.Intervals.{size, point_interval, interval_sub};
 ghost use Rattle.decimal_e.specs.Fractions.{IsAtMost};
 ghost use Rattle.bounds_report.specs.Differences.{difference_of, AreDifferencesOf, IsFirstFarRow};
 ghost use Rattle.bounds_report.specs.Ends.{AreEnds, ends_of, IfRange};
@@ -24,7 +24,7 @@ const SUM_LIMIT: u128 = 1 << 65;
 fn is_exactly(w: &Iv, v: i128) -> bool
     requires word { size w.now ≤ 10 ^ 37 }
     requires number { unsigned_abs v ≤ 10 ^ 37 }
-    ensures { result ≡ nat_le (size (word_sub w.now (point_word v))) 0 }
+    ensures { result ≡ nat_le (size (interval_sub w.now (point_interval v))) 0 }
 {
     word_difference(w, &Iv::point(v)).mag() == 0
 }
@@ -32,7 +32,7 @@ fn is_exactly(w: &Iv, v: i128) -> bool
 /// The word at 10^20 of an estimate in units of 10^-16.
 fn estimate_word(estimate: i128) -> Iv
     requires { unsigned_abs estimate ≤ 10 ^ 33 }
-    ensures value { result ≡ point_word (estimate *ℤ pos (10 ^ 4)) }
+    ensures value { result ≡ point_interval (estimate *ℤ pos (10 ^ 4)) }
     ensures bound { size result ≤ 10 ^ 37 }
 {
     Iv::point(estimate * 10_000)

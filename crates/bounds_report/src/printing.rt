@@ -4,11 +4,11 @@ ghost use Rattle.std.specs.Prelude.{◌≡◌, ◌≤◌, ◌<◌, ◌^◌, ℕ,
 ghost use Rattle.std.specs.Vec.{vec_len};
 ghost use Rattle.decimal_e.specs.Fractions.{IsAtMost};
 ghost use Rattle.equil.specs.Tables.{table_of, exponent_of};
-ghost use Rattle.chol_factor.specs.Squares.{at};
+ghost use Rattle.whole_numbers.specs.Lists.{at};
 ghost use Rattle.enclosure_check.specs.Vectors.{IsSmall};
 ghost use Rattle.bounds_report.specs.Printing.{decimal_at, numbers_at, ArePrinted};
 ghost use Rattle.bounds_report.specs.Refusals.{IsPrintRefused};
-ghost use Rattle.bounds_report.specs.Residuals.{AreSmallWords, numbers_from, AreRowsPrinted, AreRowsRefused};
+ghost use Rattle.bounds_report.specs.Residuals.{AreSmallIntervals, numbers_from, AreRowsPrinted, AreRowsRefused};
 ghost use Rattle.bounds_report.specs.Rows.{row_count};
 
 use crate::PrintError;
@@ -34,7 +34,7 @@ fn place<const N: usize>(w: &Working<N>, i: usize) -> i32
 /// The numbers of a row, from its ends and the differences.
 fn numbers<const N: usize>(w: &Working<N>, ends: &[Ends], zs: &[Iv], i: usize) -> Printed
     requires ends { length ends.now ≡ w.now.a.size }
-    requires differences { AreSmallWords w.now.a.size zs.now }
+    requires differences { AreSmallIntervals w.now.a.size zs.now }
     requires row { i < w.now.a.size }
     ensures { result ≡ numbers_from w.now.a.size (table_of w.now.a w.now.d.items) (exponent_of w.now.e.items) ends.now zs.now i }
 {
@@ -56,7 +56,7 @@ fn all_numbers<const N: usize>(
     zs: &[Iv],
 ) -> Result<Vec<Printed>, AllocError>
     requires ends { length ends.now ≡ w.now.a.size }
-    requires differences { AreSmallWords w.now.a.size zs.now }
+    requires differences { AreSmallIntervals w.now.a.size zs.now }
     ensures len { IfOk result (λ ps. vec_len ps ≡ w.now.a.size) }
     ensures rows { IfOk result (λ ps. (i : ℕ) → i < w.now.a.size → numbers_at ps.items i ≡ numbers_from w.now.a.size (table_of w.now.a w.now.d.items) (exponent_of w.now.e.items) ends.now zs.now i) }
 {

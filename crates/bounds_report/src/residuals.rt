@@ -1,11 +1,11 @@
 //! What the estimates leave of the right side.
 
 ghost use Rattle.std.specs.Prelude.{◌≡◌, ◌≤◌, ◌<◌, ◌*◌, ◌^◌};
-ghost use Rattle.whole_numbers.specs.Words.{size, word_mul};
+ghost use Rattle.whole_numbers.specs.Intervals.{size, interval_mul};
 ghost use Rattle.sym_blocks.specs.Tables.{word};
 ghost use Rattle.equil.specs.Tables.{table_of};
 ghost use Rattle.bounds_report.specs.Differences.{word_at};
-ghost use Rattle.bounds_report.specs.Residuals.{AreSmallWords, row_sum, residual_size};
+ghost use Rattle.bounds_report.specs.Residuals.{AreSmallIntervals, row_sum, residual_size};
 
 use crate::words::{word_difference, word_product};
 use equil::Working;
@@ -13,10 +13,10 @@ use interval_word::Iv;
 
 /// The product of a word of the table and a difference.
 fn term<const N: usize>(w: &Working<N>, zs: &[Iv], i: usize, j: usize) -> Iv
-    requires differences { AreSmallWords w.now.a.size zs.now }
+    requires differences { AreSmallIntervals w.now.a.size zs.now }
     requires row { i < w.now.a.size }
     requires column { j < w.now.a.size }
-    ensures value { result ≡ word_mul (word w.now.a i j) (word_at zs.now j) }
+    ensures value { result ≡ interval_mul (word w.now.a i j) (word_at zs.now j) }
     ensures bound { size result ≤ 2 ^ 61 * size (word_at zs.now j) }
 {
     word_product(&w.a.get(i, j), &zs[j])
@@ -24,7 +24,7 @@ fn term<const N: usize>(w: &Working<N>, zs: &[Iv], i: usize, j: usize) -> Iv
 
 /// What the differences make of a row of the table.
 fn row_sum<const N: usize>(w: &Working<N>, zs: &[Iv], i: usize) -> Iv
-    requires differences { AreSmallWords w.now.a.size zs.now }
+    requires differences { AreSmallIntervals w.now.a.size zs.now }
     requires row { i < w.now.a.size }
     ensures value { result ≡ row_sum w.now.a.size (table_of w.now.a w.now.d.items) zs.now i }
     ensures bound { size result ≤ 2 ^ 126 }
@@ -38,7 +38,7 @@ fn row_sum<const N: usize>(w: &Working<N>, zs: &[Iv], i: usize) -> Iv
 
 /// The greatest size of what the differences leave of the right side of a row.
 pub fn residual<const N: usize>(w: &Working<N>, zs: &[Iv], i: usize) -> u128
-    requires differences { AreSmallWords w.now.a.size zs.now }
+    requires differences { AreSmallIntervals w.now.a.size zs.now }
     requires row { i < w.now.a.size }
     ensures { result ≡ residual_size w.now.a.size (table_of w.now.a w.now.d.items) zs.now i }
 {

@@ -2,10 +2,10 @@
 //! to them.
 
 ghost use Rattle.std.specs.Prelude.{◌≡◌, ℤ, pos, ◌+ℤ◌, ◌-ℤ◌, ◌≤ℤ◌, ◌*◌, ◌≤◌, ◌<◌, ◌^◌, unsigned_abs, SomeIff};
-ghost use Rattle.whole_numbers.specs.Words.{size};
+ghost use Rattle.whole_numbers.specs.Intervals.{size};
 ghost use Rattle.whole_numbers.specs.Scaling.{floor_scaled};
 ghost use Rattle.decimal_e.specs.Fractions.{IsAtMost};
-ghost use Rattle.decimal_e.specs.Scales.{decimal_word};
+ghost use Rattle.decimal_e.specs.Scales.{decimal_interval};
 ghost use Rattle.bounds_report.specs.Printing.{low_term, high_term, estimate_of};
 ghost use Rattle.bounds_report.specs.Rows.{row_count, exponent_at, apriori_at, vector_at, radius_at};
 
@@ -20,7 +20,7 @@ use whole_numbers::{scale_ceil, scale_floor};
 fn word_at(d: &Dec, k: i32) -> Option<Iv>
     requires low { pos 0 ≤ℤ k }
     requires high { k ≤ℤ pos 20 }
-    ensures { SomeIff result (size (decimal_word d.now k) ≤ 10 ^ 37) (decimal_word d.now k) }
+    ensures { SomeIff result (size (decimal_interval d.now k) ≤ 10 ^ 37) (decimal_interval d.now k) }
 {
     let lo = floor_at(d, k)?;
     let hi = ceil_at(d, k)?;
@@ -33,7 +33,7 @@ pub fn apriori_word(x0: &Dec, k: i32) -> Iv
     requires most { IsAtMost (10 ^ 12) x0.now }
     requires low { pos 0 ≤ℤ k }
     requires high { k ≤ℤ pos 20 }
-    ensures value { result ≡ decimal_word x0.now k }
+    ensures value { result ≡ decimal_interval x0.now k }
     ensures bound { size result ≤ 10 ^ 32 }
 {
     match word_at(x0, k) {
@@ -45,7 +45,7 @@ pub fn apriori_word(x0: &Dec, k: i32) -> Iv
 /// The word of a row's a priori value in units of 10^-16.
 pub fn printed_word(rows: &Rows, i: usize) -> Iv
     requires { i < row_count rows.now }
-    ensures value { result ≡ decimal_word (apriori_at rows.now i) (pos 16) }
+    ensures value { result ≡ decimal_interval (apriori_at rows.now i) (pos 16) }
     ensures bound { size result ≤ 10 ^ 32 }
 {
     apriori_word(&rows.apriori(i), 16)
@@ -108,7 +108,7 @@ fn middle_term(rows: &Rows, i: usize) -> i128
 /// A row's a priori value and its start vector, rounded down.
 fn middle(rows: &Rows, i: usize) -> i128
     requires { i < row_count rows.now }
-    ensures value { result ≡ (decimal_word (apriori_at rows.now i) (pos 16)).lo +ℤ floor_scaled (vector_at rows.now i) (pos 4 -ℤ exponent_at rows.now i) }
+    ensures value { result ≡ (decimal_interval (apriori_at rows.now i) (pos 16)).lo +ℤ floor_scaled (vector_at rows.now i) (pos 4 -ℤ exponent_at rows.now i) }
     ensures bound { unsigned_abs result ≤ 10 ^ 33 }
 {
     printed_word(rows, i).lo() + middle_term(rows, i)

@@ -2,7 +2,7 @@
 
 ghost use Rattle.std.specs.Prelude.{◌≡◌, ◌≤◌, ◌^◌, IfSome, length, slice_index_or, vec_len};
 ghost use Rattle.decimal_e.specs.Fractions.{IsAtMost};
-ghost use Rattle.chol_factor.specs.Squares.{at};
+ghost use Rattle.whole_numbers.specs.Lists.{at};
 ghost use Rattle.enclosure_check.specs.Vectors.{IsSmall};
 
 use super::*;

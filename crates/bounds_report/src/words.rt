@@ -1,7 +1,7 @@
 //! Differences and products of words, with how large they are.
 
 ghost use Rattle.std.specs.Prelude.{◌≡◌, ◌+◌, ◌*◌, ◌≤◌, ◌<◌, ◌^◌};
-ghost use Rattle.whole_numbers.specs.Words.{size, word_sub, word_mul};
+ghost use Rattle.whole_numbers.specs.Intervals.{size, interval_sub, interval_mul};
 
 use interval_word::Iv;
 
@@ -9,7 +9,7 @@ use interval_word::Iv;
 #[tactic(auto, using(crate::proofs::WordSizes::difference_rules))]
 pub fn word_difference(a: &Iv, b: &Iv) -> Iv
     requires { size a.now + size b.now < 2 ^ 127 }
-    ensures value { result ≡ word_sub a.now b.now }
+    ensures value { result ≡ interval_sub a.now b.now }
     ensures bound { size result ≤ size a.now + size b.now }
 {
     a.sub(b)
@@ -19,7 +19,7 @@ pub fn word_difference(a: &Iv, b: &Iv) -> Iv
 #[tactic(auto, using(whole_numbers::proofs::Sizes::product_size))]
 pub fn word_product(a: &Iv, b: &Iv) -> Iv
     requires { size a.now * size b.now ≤ 2 ^ 126 }
-    ensures value { result ≡ word_mul a.now b.now }
+    ensures value { result ≡ interval_mul a.now b.now }
     ensures bound { size result ≤ size a.now * size b.now }
 {
     a.mul(b)

@@ -4,9 +4,9 @@ use Rattle.std.proofs.Math.IntN.{◌-ℤ◌}
 use Rattle.std.proofs.Math.Decide.{dec_lt}
 use Rattle.std.proofs.Math.Nat.{mul-le-mul}
 use Rattle.std.proofs.lemmas.Int.{ints, by_lt_z}
-use Rattle.whole_numbers.proofs.Cases.{neither_less}
+use Rattle.stated_order.proofs.FirstLaws.{neither_less}
 use Rattle.whole_numbers.proofs.Sums.{sum_to_same}
-use Rattle.chol_factor.specs.Factor.{part, ratio, left_of, IsRoot, IsColumn, HasColumns, IsPivot}
+use Rattle.chol_factor.specs.Factor.{fixed_product, fixed_quotient, left_of, IsRoot, IsColumn, HasColumns, IsPivot}
 use Rattle.chol_factor.specs.Making.{AgreeBefore}
 
 -- ---- one root
@@ -22,17 +22,17 @@ pub root_alone : (a r s : ℤ) → IsRoot a r → IsRoot a s → r ≡ s
 root_alone a r s p q = let l = root_order a r s p q in let g = root_order a s r q p in omega (arith, ints)
 
 -- ---- equal parts and quotients
-pub equal_parts : (a b c d : ℤ) → a ≡ b → c ≡ d → part a c ≡ part b d
-equal_parts a b c d e h = ap (λ x. part x c) e ∙ ap (λ x. part b x) h
+pub equal_fixed_products : (a b c d : ℤ) → a ≡ b → c ≡ d → fixed_product a c ≡ fixed_product b d
+equal_fixed_products a b c d e h = ap (λ x. fixed_product x c) e ∙ ap (λ x. fixed_product b x) h
 
-pub equal_ratios : (a b c d : ℤ) → a ≡ b → c ≡ d → ratio a c ≡ ratio b d
-equal_ratios a b c d e h = ap (λ x. ratio x c) e ∙ ap (λ x. ratio b x) h
+pub equal_fixed_quotients : (a b c d : ℤ) → a ≡ b → c ≡ d → fixed_quotient a c ≡ fixed_quotient b d
+equal_fixed_quotients a b c d e h = ap (λ x. fixed_quotient x c) e ∙ ap (λ x. fixed_quotient b x) h
 
 -- ---- one column after equal columns
 pub left_alone : (n : ℕ) (m f g : ℕ → ℕ → ℤ) (i j : ℕ) → AgreeBefore n f g j → j ≤ i → i < n → left_of m f i j ≡ left_of m g i j
 left_alone n m f g i j same lower row =
     let row_j : j < n = omega arith in
-    ap (λ s. m i j -ℤ s) (sum_to_same j (λ k. part (f i k) (f j k)) (λ k. part (g i k) (g j k)) (λ k h. equal_parts (f i k) (g i k) (f j k) (g j k) (same i k h (omega arith) row) (same j k h (omega arith) row_j)))
+    ap (λ s. m i j -ℤ s) (sum_to_same j (λ k. fixed_product (f i k) (f j k)) (λ k. fixed_product (g i k) (g j k)) (λ k h. equal_fixed_products (f i k) (g i k) (f j k) (g j k) (same i k h (omega arith) row) (same j k h (omega arith) row_j)))
 
 pub diagonal_alone : (n : ℕ) (m f g : ℕ → ℕ → ℤ) (j : ℕ) → AgreeBefore n f g j → IsColumn n m f j → IsColumn n m g j → j < n → f j j ≡ g j j
 diagonal_alone n m f g j same p q row = root_alone (left_of m g j j) (f j j) (g j j) (subst (λ a. IsRoot a (f j j)) (left_alone n m f g j j same (omega arith) row) p.root) q.root
@@ -41,7 +41,7 @@ pub column_alone : (n : ℕ) (m f g : ℕ → ℕ → ℤ) (i j : ℕ) → Agree
 column_alone n m f g i j same p q lower row =
     elim (dec_lt j i) [
       | yes l ↦
-          p.below i l row ∙ equal_ratios _ _ _ _ (left_alone n m f g i j same lower row) (diagonal_alone n m f g j same p q (omega arith)) ∙ sym (q.below i l row)
+          p.below i l row ∙ equal_fixed_quotients _ _ _ _ (left_alone n m f g i j same lower row) (diagonal_alone n m f g j same p q (omega arith)) ∙ sym (q.below i l row)
       | no l ↦ let e : j ≡ i = omega arith in subst (λ k. f k j ≡ g k j) e (diagonal_alone n m f g j same p q (omega arith))
     ]
 

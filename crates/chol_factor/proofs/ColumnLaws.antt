@@ -8,17 +8,17 @@ use Rattle.std.proofs.lemmas.Int.{ints}
 use Rattle.whole_numbers.specs.Sum.{sum_to}
 use Rattle.whole_numbers.proofs.Sums.{sum_to_same}
 use Rattle.whole_numbers.proofs.Cases.{last_or_before}
-use Rattle.chol_factor.specs.Factor.{FactorTable, factor_word, part, ratio, left_of, IsRoot, IsColumn, HasColumns, IsPivot}
+use Rattle.chol_factor.specs.Factor.{FactorTable, factor_word, fixed_product, fixed_quotient, left_of, IsRoot, IsColumn, HasColumns, IsPivot}
 use Rattle.chol_factor.specs.Making.{SetsWord, AgreeBefore, IsWaiting, IsDiagonal, IsBounded, IsStuck}
-use Rattle.chol_factor.specs.Squares.{at}
-use Rattle.chol_factor.proofs.Alone.{equal_parts, equal_ratios, root_alone, left_alone, factor_alone}
+use Rattle.whole_numbers.specs.Lists.{at}
+use Rattle.chol_factor.proofs.Alone.{equal_fixed_products, equal_fixed_quotients, root_alone, left_alone, factor_alone}
 
 -- ---- one number
 -- the sum over two rows is that of the table's words
-pub taken_is : (f : FactorTable) (i j : ℕ) (a b : List ℤ) → length a ≡ j → ((c : ℕ) → c < j → at a c ≡ factor_word f i c) → ((c : ℕ) → c < j → at b c ≡ factor_word f j c) → sum_to (length a) (λ k. part (at a k) (at b k)) ≡ sum_to j (λ k. part (factor_word f i k) (factor_word f j k))
+pub taken_is : (f : FactorTable) (i j : ℕ) (a b : List ℤ) → length a ≡ j → ((c : ℕ) → c < j → at a c ≡ factor_word f i c) → ((c : ℕ) → c < j → at b c ≡ factor_word f j c) → sum_to (length a) (λ k. fixed_product (at a k) (at b k)) ≡ sum_to j (λ k. fixed_product (factor_word f i k) (factor_word f j k))
 taken_is f i j a b len left right =
-    ap (λ n. sum_to n (λ k. part (at a k) (at b k))) len
-    ∙ sum_to_same j (λ k. part (at a k) (at b k)) (λ k. part (factor_word f i k) (factor_word f j k)) (λ k h. equal_parts (at a k) (factor_word f i k) (at b k) (factor_word f j k) (left k h) (right k h))
+    ap (λ n. sum_to n (λ k. fixed_product (at a k) (at b k))) len
+    ∙ sum_to_same j (λ k. fixed_product (at a k) (at b k)) (λ k. fixed_product (factor_word f i k) (factor_word f j k)) (λ k h. equal_fixed_products (at a k) (factor_word f i k) (at b k) (factor_word f j k) (left k h) (right k h))
 
 root_small : (k : ℕ) → k * k ≤ 2 ^ 121 → k ≤ 2 ^ 61
 root_small k h =
@@ -47,7 +47,7 @@ pub bounded_same : (a b r s : ℤ) → a ≡ b → r ≡ s → IsBounded a r →
 bounded_same a b r s e h p = subst (IsBounded b) h (subst (λ x. IsBounded x r) e p)
 
 pub left_same : (m p f : ℕ → ℕ → ℤ) (i j : ℕ) → p i j ≡ m i j → left_of p f i j ≡ left_of m f i j
-left_same m p f i j e = ap (λ a. a -ℤ sum_to j (λ k. part (f i k) (f j k))) e
+left_same m p f i j e = ap (λ a. a -ℤ sum_to j (λ k. fixed_product (f i k) (f j k))) e
 
 -- ---- a word written into column j
 pub agree_set : (n : ℕ) (o f g : FactorTable) (i j : ℕ) (v : ℤ) → f.size ≡ n → AgreeBefore n (factor_word o) (factor_word f) j → SetsWord f g i j v → AgreeBefore n (factor_word o) (factor_word g) j
@@ -79,21 +79,21 @@ column_started m f g j r row d s =
       fits = λ i h l. let e : j ≡ i = omega arith in subst (λ k. unsigned_abs (factor_word g k j) ≤ 2 ^ 61) e here.fits;
     }
 
-pub column_more : (m : ℕ → ℕ → ℤ) (f g : FactorTable) (i j : ℕ) (a r v : ℤ) → j < i → i < f.size → IsColumn i m (factor_word f) j → a ≡ left_of m (factor_word f) i j → factor_word f j j ≡ r → IsBounded a r → v ≡ ratio a r → SetsWord f g i j v → IsColumn (i + 1) m (factor_word g) j
+pub column_more : (m : ℕ → ℕ → ℤ) (f g : FactorTable) (i j : ℕ) (a r v : ℤ) → j < i → i < f.size → IsColumn i m (factor_word f) j → a ≡ left_of m (factor_word f) i j → factor_word f j j ≡ r → IsBounded a r → v ≡ fixed_quotient a r → SetsWord f g i j v → IsColumn (i + 1) m (factor_word g) j
 column_more m f g i j a r v lower row p at_a at_r bounded quotient s =
     let b = bounded_same a (left_of m (factor_word f) i j) r (factor_word f j j) at_a (sym at_r) bounded in
-    let is = quotient ∙ equal_ratios a (left_of m (factor_word f) i j) r (factor_word f j j) at_a (sym at_r) in
+    let is = quotient ∙ equal_fixed_quotients a (left_of m (factor_word f) i j) r (factor_word f j j) at_a (sym at_r) in
     let same = agree_self (i + 1) f g i j v (omega arith) s in
     let left = λ (k : ℕ) (h : j ≤ k) (l : k < i + 1). left_alone (i + 1) m (factor_word f) (factor_word g) k j same h l in
     let word = λ (k : ℕ) (l : k < i). sym (s.others k j (omega arith) (omega arith) (λ e. let q = e.0 in absurd (omega arith))) in
     let diagonal = word j lower in
-    let here : factor_word g i j ≡ ratio (left_of m (factor_word g) i j) (factor_word g j j) = s.here ∙ is ∙ equal_ratios _ _ _ _ (left i (omega arith) (omega arith)) diagonal in
+    let here : factor_word g i j ≡ fixed_quotient (left_of m (factor_word g) i j) (factor_word g j j) = s.here ∙ is ∙ equal_fixed_quotients _ _ _ _ (left i (omega arith) (omega arith)) diagonal in
     record {
       pivot = subst (λ a. pos 1 ≤ℤ a) (left j (omega arith) (omega arith)) p.pivot;
       root = subst (IsRoot (left_of m (factor_word g) j j)) diagonal (subst (λ a. IsRoot a (factor_word f j j)) (left j (omega arith) (omega arith)) p.root);
       below = λ k h l. elim (last_or_before k i l) [
-        | inl q ↦ sym (word k q) ∙ p.below k h q ∙ equal_ratios _ _ _ _ (left k (omega arith) l) diagonal
-        | inr q ↦ subst (λ x. factor_word g x j ≡ ratio (left_of m (factor_word g) x j) (factor_word g j j)) (sym q) here
+        | inl q ↦ sym (word k q) ∙ p.below k h q ∙ equal_fixed_quotients _ _ _ _ (left k (omega arith) l) diagonal
+        | inr q ↦ subst (λ x. factor_word g x j ≡ fixed_quotient (left_of m (factor_word g) x j) (factor_word g j j)) (sym q) here
       ];
       left_fits = λ k h l. elim (last_or_before k i l) [
         | inl q ↦ subst (λ a. unsigned_abs a ≤ 2 ^ 61) (left k h l) (p.left_fits k h q)
@@ -128,7 +128,7 @@ column_of n m p g j row same c =
     record {
       pivot = subst (λ a. pos 1 ≤ℤ a) (left j (omega arith) row) c.pivot;
       root = subst (λ a. IsRoot a (g j j)) (left j (omega arith) row) c.root;
-      below = λ i h l. c.below i h l ∙ ap (λ a. ratio a (g j j)) (left i (omega arith) l);
+      below = λ i h l. c.below i h l ∙ ap (λ a. fixed_quotient a (g j j)) (left i (omega arith) l);
       left_fits = λ i h l. subst (λ a. unsigned_abs a ≤ 2 ^ 61) (left i h l) (c.left_fits i h l);
       fits = c.fits;
     }
@@ -148,7 +148,7 @@ stuck_below n m o f i j a r lower row kept made at_a at_r none g same p =
     let left = left_alone n m f g i j agree (omega arith) row in
     let left_j = left_alone n m f g j j agree (omega arith) (omega arith) in
     let root = root_alone (left_of m g j j) (f j j) (g j j) (subst (λ a. IsRoot a (f j j)) left_j made.root) p.root in
-    let word = equal_ratios _ _ _ _ left root ∙ sym (p.below i lower row) in
+    let word = equal_fixed_quotients _ _ _ _ left root ∙ sym (p.below i lower row) in
     none (bounded_same _ a _ r (sym at_a) at_r (record {
       left_fits = subst (λ x. unsigned_abs x ≤ 2 ^ 61) (sym left) (p.left_fits i (omega arith) row);
       fits = subst (λ x. unsigned_abs x ≤ 2 ^ 61) (sym word) (p.fits i (omega arith) row);
@@ -163,7 +163,7 @@ column_kept n m f g j row same p =
     record {
       pivot = subst (λ a. pos 1 ≤ℤ a) (left j (omega arith) row) p.pivot;
       root = subst (IsRoot (left_of m g j j)) (word j (omega arith) row) (subst (λ a. IsRoot a (f j j)) (left j (omega arith) row) p.root);
-      below = λ i h l. sym (word i (omega arith) l) ∙ p.below i h l ∙ equal_ratios _ _ _ _ (left i (omega arith) l) (word j (omega arith) row);
+      below = λ i h l. sym (word i (omega arith) l) ∙ p.below i h l ∙ equal_fixed_quotients _ _ _ _ (left i (omega arith) l) (word j (omega arith) row);
       left_fits = λ i h l. subst (λ a. unsigned_abs a ≤ 2 ^ 61) (left i h l) (p.left_fits i h l);
       fits = λ i h l. subst (λ a. unsigned_abs a ≤ 2 ^ 61) (word i h l) (p.fits i h l);
     }

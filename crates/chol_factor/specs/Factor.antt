@@ -4,25 +4,21 @@
 use Rattle.std.specs.Prelude.{◌≡◌, ◌≤◌, ◌<◌, ◌*◌, ◌^◌, ℕ, suc, ℤ, pos, ◌+ℤ◌, ◌-ℤ◌, ◌*ℤ◌, ◌≤ℤ◌, ◌<ℤ◌, unsigned_abs, List, length}
 use Rattle.whole_numbers.specs.Sum.{sum_to}
 use Rattle.whole_numbers.specs.Quotients.{floor_over}
-use Rattle.whole_numbers.specs.Words.{Word}
-use Rattle.chol_factor.specs.Squares.{grid, AllAtMost}
+use Rattle.whole_numbers.specs.Intervals.{Interval, midpoint}
+use Rattle.whole_numbers.specs.Lists.{grid, AllAtMost}
 use Rattle.sym_blocks.specs.Tables.{SymTable, word}
 
--- half the sum of the ends of a word, rounded down
-abbrev pub middle : Word → ℤ
-middle w = floor_over (w.lo +ℤ w.hi) 2
-
 -- the middles of the words of a table
-abbrev pub middles : SymTable → ℕ → ℕ → ℤ
-middles a i j = middle (word a i j)
+abbrev pub midpoints : SymTable → ℕ → ℕ → ℤ
+midpoints a i j = midpoint (word a i j)
 
 -- a * b / 2^60
-abbrev pub part : ℤ → ℤ → ℤ
-part a b = floor_over (a *ℤ b) (2 ^ 60)
+abbrev pub fixed_product : ℤ → ℤ → ℤ
+fixed_product a b = floor_over (a *ℤ b) (2 ^ 60)
 
 -- a * 2^60 / b, for b above 0
-abbrev pub ratio : ℤ → ℤ → ℤ
-ratio a b = floor_over (a *ℤ pos (2 ^ 60)) (unsigned_abs b)
+abbrev pub fixed_quotient : ℤ → ℤ → ℤ
+fixed_quotient a b = floor_over (a *ℤ pos (2 ^ 60)) (unsigned_abs b)
 
 -- the square root of a * 2^60
 pub record IsRoot (a root : ℤ) : Type 0 where
@@ -32,13 +28,13 @@ pub record IsRoot (a root : ℤ) : Type 0 where
 
 -- what the columns before column j leave of m at (i, j)
 abbrev pub left_of : (ℕ → ℕ → ℤ) → (ℕ → ℕ → ℤ) → ℕ → ℕ → ℤ
-left_of m f i j = m i j -ℤ sum_to j (λ k. part (f i k) (f j k))
+left_of m f i j = m i j -ℤ sum_to j (λ k. fixed_product (f i k) (f j k))
 
 -- column j of f is that of the factor of m with n rows, and all of it is in bounds
 pub record IsColumn (n : ℕ) (m f : ℕ → ℕ → ℤ) (j : ℕ) : Type 0 where
   pub pivot : pos 1 ≤ℤ left_of m f j j
   pub root : IsRoot (left_of m f j j) (f j j)
-  pub below : (i : ℕ) → j < i → i < n → f i j ≡ ratio (left_of m f i j) (f j j)
+  pub below : (i : ℕ) → j < i → i < n → f i j ≡ fixed_quotient (left_of m f i j) (f j j)
   pub left_fits : (i : ℕ) → j ≤ i → i < n → unsigned_abs (left_of m f i j) ≤ 2 ^ 61
   pub fits : (i : ℕ) → j ≤ i → i < n → unsigned_abs (f i j) ≤ 2 ^ 61
 

@@ -1,4 +1,3 @@
 pub mod Factor
 pub mod Making
 pub mod Refusals
-pub mod Squares

@@ -1,7 +1,7 @@
 -- A factor in the making, column by column.
 use Rattle.std.specs.Prelude.{◌≡◌, ◌≤◌, ◌<◌, ◌*◌, ◌^◌, ℕ, ℤ, pos, ◌≤ℤ◌, length, unsigned_abs}
-use Rattle.chol_factor.specs.Factor.{FactorTable, factor_word, ratio, IsRoot, IsColumn}
-use Rattle.chol_factor.specs.Squares.{AllAtMost}
+use Rattle.chol_factor.specs.Factor.{FactorTable, factor_word, fixed_quotient, IsRoot, IsColumn}
+use Rattle.whole_numbers.specs.Lists.{AllAtMost}
 
 -- what each table in the making keeps
 pub record IsSquare (f : FactorTable) : Type 0 where
@@ -33,7 +33,7 @@ pub record IsDiagonal (a r : ℤ) : Type 0 where
 -- a and its quotient by r are in bounds
 pub record IsBounded (a r : ℤ) : Type 0 where
   pub left_fits : unsigned_abs a ≤ 2 ^ 61
-  pub fits : unsigned_abs (ratio a r) ≤ 2 ^ 61
+  pub fits : unsigned_abs (fixed_quotient a r) ≤ 2 ^ 61
 
 -- no table that begins with the columns of f before column j has a column j of the factor of m
 abbrev pub IsStuck : ℕ → (ℕ → ℕ → ℤ) → (ℕ → ℕ → ℤ) → ℕ → Type 0

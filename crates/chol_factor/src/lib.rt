@@ -8,7 +8,7 @@ mod kernels;
 mod making;
 mod tables;
 
-pub use kernels::{parts, ratio};
+pub use kernels::{fixed_products, fixed_quotient};
 pub use making::factor;
 pub use tables::Factor;
 

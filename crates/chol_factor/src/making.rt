@@ -3,12 +3,12 @@
 ghost use Rattle.std.specs.Prelude.{◌≡◌, ◌≤◌, ◌<◌, ◌+◌, ◌*◌, ◌^◌, ℕ, ℤ, pos, ◌≤ℤ◌, unsigned_abs, IfOk, IfErr, IfSome, IfNone, SomeIff};
 ghost use Rattle.std.specs.Bool.{OnTrue, OnFalse};
 ghost use Rattle.whole_numbers.specs.Sum.{sum_to};
-ghost use Rattle.chol_factor.specs.Factor.{FactorTable, factor_word, middles, part, ratio, left_of, IsColumn, HasColumns};
+ghost use Rattle.chol_factor.specs.Factor.{FactorTable, factor_word, midpoints, fixed_product, fixed_quotient, left_of, IsColumn, HasColumns};
 ghost use Rattle.chol_factor.specs.Making.{AgreeBefore, IsWaiting, IsDiagonal, IsBounded, IsStuck};
 ghost use Rattle.chol_factor.specs.Refusals.{IsFactorRefused};
 
 use crate::FactorError;
-use crate::kernels::{parts, ratio};
+use crate::kernels::{fixed_products, fixed_quotient};
 use crate::tables::{Factor, Square};
 use equil::Working;
 use std::alloc::{AllocError, Global};
@@ -21,10 +21,10 @@ const UNIT: i128 = 1 << 60;
 const LIMIT: u128 = 1 << 61;
 
 /// The middle of the working word (i, j).
-fn middle<const N: usize>(w: &Working<N>, i: usize, j: usize) -> i64
+fn midpoint<const N: usize>(w: &Working<N>, i: usize, j: usize) -> i64
     requires row { i < w.now.a.size }
     requires column { j < w.now.a.size }
-    ensures value { result ≡ middles w.now.a i j }
+    ensures value { result ≡ midpoints w.now.a i j }
     ensures bound { unsigned_abs result ≤ 2 ^ 61 }
 {
     w.a.get(i, j).mid() as i64
@@ -34,19 +34,19 @@ fn middle<const N: usize>(w: &Working<N>, i: usize, j: usize) -> i64
 fn fill_row<const N: usize>(f: &mut Square, w: &Working<N>, i: usize)
     requires sizes { f.old.size ≡ w.now.a.size }
     requires row { i < f.old.size }
-    requires before { IsWaiting i (middles w.now.a) (factor_word f.old) 0 }
+    requires before { IsWaiting i (midpoints w.now.a) (factor_word f.old) 0 }
     ensures size { f.new.size ≡ f.old.size }
-    ensures filled { IsWaiting (i + 1) (middles w.now.a) (factor_word f.new) 0 }
+    ensures filled { IsWaiting (i + 1) (midpoints w.now.a) (factor_word f.new) 0 }
 {
     for k in 0..i + 1 {
-        f.set(i, k, middle(w, i, k));
+        f.set(i, k, midpoint(w, i, k));
     }
 }
 
 /// The table of the middles of the working words, from which the factor is made in place. Only memory can be wanting.
 fn unmade<const N: usize>(alloc: Global, w: &Working<N>) -> Result<Square, AllocError>
     ensures size { IfOk result (λ f. f.size ≡ w.now.a.size) }
-    ensures filled { IfOk result (λ f. IsWaiting w.now.a.size (middles w.now.a) (factor_word f) 0) }
+    ensures filled { IfOk result (λ f. IsWaiting w.now.a.size (midpoints w.now.a) (factor_word f) 0) }
 {
     let mut table = Square::zeros(alloc, w.a.size())?;
     for i in 0..table.size() {
@@ -59,10 +59,10 @@ fn unmade<const N: usize>(alloc: Global, w: &Working<N>) -> Result<Square, Alloc
 fn taken(f: &Square, i: usize, j: usize) -> i128
     requires row { i < f.now.size }
     requires column { j < f.now.size }
-    ensures value { result ≡ sum_to j (λ k. part (factor_word f.now i k) (factor_word f.now j k)) }
+    ensures value { result ≡ sum_to j (λ k. fixed_product (factor_word f.now i k) (factor_word f.now j k)) }
     ensures bound { unsigned_abs result ≤ 1000 * 2 ^ 62 }
 {
-    parts(f.row_before(i, j), f.row_before(j, j))
+    fixed_products(f.row_before(i, j), f.row_before(j, j))
 }
 
 /// What the columns before column `j` leave of the word at (i, j), where that is still a middle.
@@ -88,12 +88,12 @@ fn diagonal(t: i128) -> Option<i64>
 /// The quotient of what is left by the word of the diagonal, and None exactly where one of them is out of bounds.
 fn quotient(t: i128, root: i64) -> Option<i64>
     requires { pos 1 ≤ℤ root }
-    ensures { SomeIff result (IsBounded t root) (ratio t root) }
+    ensures { SomeIff result (IsBounded t root) (fixed_quotient t root) }
 {
     if t.unsigned_abs() > LIMIT {
         return None;
     }
-    let word = ratio(t, root);
+    let word = fixed_quotient(t, root);
     if word.unsigned_abs() > LIMIT {
         return None;
     }
@@ -127,8 +127,8 @@ fn make_column(f: &mut Square, j: usize) -> bool
 /// The factor of the middles of a working table. Pivot comes exactly where a column has none, with the first such.
 pub fn factor<const N: usize>(alloc: Global, w: &Working<N>) -> Result<Factor, FactorError>
     ensures size { IfOk result (λ f. f.size ≡ w.now.a.size) }
-    ensures columns { IfOk result (λ f. HasColumns w.now.a.size (middles w.now.a) (factor_word f) w.now.a.size) }
-    ensures refused { IfErr result (IsFactorRefused w.now.a.size (middles w.now.a)) }
+    ensures columns { IfOk result (λ f. HasColumns w.now.a.size (midpoints w.now.a) (factor_word f) w.now.a.size) }
+    ensures refused { IfErr result (IsFactorRefused w.now.a.size (midpoints w.now.a)) }
 {
     let Ok(mut table) = unmade(alloc, w) else {
         return Err(FactorError::Memory);

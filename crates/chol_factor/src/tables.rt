@@ -3,7 +3,7 @@
 ghost use Rattle.std.specs.Prelude.{◌≡◌, ◌≤◌, ◌<◌, ◌+◌, ◌*◌, ◌^◌, ℕ, ℤ, pos, ◌≤ℤ◌, List, length, unsigned_abs, IfOk};
 ghost use Rattle.chol_factor.specs.Factor.{FactorTable, IsKept, factor_word};
 ghost use Rattle.chol_factor.specs.Making.{IsSquare, SetsWord};
-ghost use Rattle.chol_factor.specs.Squares.{at, AllAtMost};
+ghost use Rattle.whole_numbers.specs.Lists.{at, AllAtMost};
 
 use std::alloc::{AllocError, Global};
 use std::marker::Model;

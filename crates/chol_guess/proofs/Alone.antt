@@ -2,10 +2,12 @@
 -- bounds is one of no column.
 use Rattle.std.proofs.Common.{◌≡◌, ◌≤◌, ◌<◌, ◌+◌, ◌-◌, ◌^◌, ◌∙◌, ℕ, zero, suc, ℤ, pos, ◌*ℤ◌, ◌-ℤ◌, arith, refl, sym, ap, subst, unsigned_abs}
 use Rattle.std.proofs.Math.Decide.{dec_lt}
+use Rattle.whole_numbers.proofs.ListLaws.{same_below, minus_same, product_same}
+use Rattle.whole_numbers.specs.Lists.{SameBelow}
 use Rattle.whole_numbers.specs.Sum.{unit}
 use Rattle.whole_numbers.proofs.Sums.{sum_to_same}
-use Rattle.chol_factor.specs.Factor.{part, ratio, HasColumns, IsPivot}
-use Rattle.chol_factor.proofs.Alone.{equal_parts, equal_ratios, factor_alone, no_pivot_below}
+use Rattle.chol_factor.specs.Factor.{fixed_product, fixed_quotient, HasColumns, IsPivot}
+use Rattle.chol_factor.proofs.Alone.{equal_fixed_products, equal_fixed_quotients, factor_alone, no_pivot_below}
 use Rattle.chol_guess.specs.Columns.{up_left, down_left, IsUp, IsDown, IsInverseColumn, StayInBounds}
 use Rattle.chol_guess.specs.Pilots.{PilotTable, IsPilot, IsCondition, nearest, pilot_word}
 use Rattle.chol_guess.specs.Rows.{QuotientFits, IsDownFrom}
@@ -14,30 +16,18 @@ use Rattle.chol_guess.specs.Rows.{QuotientFits, IsDownFrom}
 abbrev pub SameLower : ℕ → (ℕ → ℕ → ℤ) → (ℕ → ℕ → ℤ) → Type 0
 SameLower n f h = (i k : ℕ) → i < n → k ≤ i → f i k ≡ h i k
 
-abbrev pub SameBelow : ℕ → (ℕ → ℤ) → (ℕ → ℤ) → Type 0
-SameBelow n u v = (k : ℕ) → k < n → u k ≡ v k
-
 pub same_lower : (n : ℕ) (f : ℕ → ℕ → ℤ) → SameLower n f f
 same_lower n f i k row lower = refl
-
-pub same_below : (n : ℕ) (u : ℕ → ℤ) → SameBelow n u u
-same_below n u k h = refl
-
-pub minus_same : (a b x y : ℤ) → a ≡ b → x ≡ y → a -ℤ x ≡ b -ℤ y
-minus_same a b x y e d = cc
-
-pub product_same : (a b x y : ℤ) → a ≡ b → x ≡ y → a *ℤ x ≡ b *ℤ y
-product_same a b x y e d = cc
 
 -- ---- going up
 pub up_left_same : (f h : ℕ → ℕ → ℤ) (g c : ℕ) (u v : ℕ → ℤ) (n i : ℕ) → i < n → SameLower n f h → SameBelow i u v → up_left f g c u i ≡ up_left h g c v i
 up_left_same f h g c u v n i row same below =
-    ap (λ s. unit c (pos (2 ^ (g + 10))) i -ℤ s) (sum_to_same i (λ k. part (f i k) (u k)) (λ k. part (h i k) (v k)) (λ k l. equal_parts (f i k) (h i k) (u k) (v k) (same i k row (omega arith)) (below k l)))
+    ap (λ s. unit c (pos (2 ^ (g + 10))) i -ℤ s) (sum_to_same i (λ k. fixed_product (f i k) (u k)) (λ k. fixed_product (h i k) (v k)) (λ k l. equal_fixed_products (f i k) (h i k) (u k) (v k) (same i k row (omega arith)) (below k l)))
 
 -- the same rows of another list, under another factor with the same lower words
 pub up_same : (f h : ℕ → ℕ → ℤ) (g c : ℕ) (u v : ℕ → ℤ) (n m : ℕ) → m ≤ n → SameLower n f h → SameBelow m u v → IsUp m f g c u → IsUp m h g c v
 up_same f h g c u v n m le same below up = record {
-  rows = λ i row. sym (below i row) ∙ up.rows i row ∙ equal_ratios _ _ (f i i) (h i i) (up_left_same f h g c u v n i (omega arith) same (λ k l. below k (omega arith))) (same i i (omega arith) (omega arith));
+  rows = λ i row. sym (below i row) ∙ up.rows i row ∙ equal_fixed_quotients _ _ (f i i) (h i i) (up_left_same f h g c u v n i (omega arith) same (λ k l. below k (omega arith))) (same i i (omega arith) (omega arith));
   left_fits = λ i row. subst (λ z. unsigned_abs z ≤ 2 ^ 66) (up_left_same f h g c u v n i (omega arith) same (λ k l. below k (omega arith))) (up.left_fits i row);
   fits = λ i row. subst (λ z. unsigned_abs z ≤ 2 ^ 64) (below i row) (up.fits i row);
 }
@@ -62,7 +52,7 @@ up_alone zero f g c u v a b = λ k h. absurd (omega arith)
 up_alone (suc m) f g c u v a b =
     let before = up_alone m f g c u v (up_fewer f g c u (suc m) m (omega arith) a) (up_fewer f g c v (suc m) m (omega arith) b) in
     let left = up_left_same f f g c u v (suc m) m (omega arith) (same_lower (suc m) f) before in
-    more_same m u v before (a.rows m (omega arith) ∙ ap (λ z. ratio z (f m m)) left ∙ sym (b.rows m (omega arith)))
+    more_same m u v before (a.rows m (omega arith) ∙ ap (λ z. fixed_quotient z (f m m)) left ∙ sym (b.rows m (omega arith)))
 
 -- where row i fails its bounds, there is no going up
 pub up_stops : (n i : ℕ) (f : ℕ → ℕ → ℤ) (g c : ℕ) (u v : ℕ → ℤ) → i < n → IsUp i f g c u → ¬ (QuotientFits (up_left f g c u i) (f i i) (2 ^ 64)) → ¬ (IsUp n f g c v)
@@ -71,7 +61,7 @@ up_stops n i f g c u v row so_far fails up =
     let left = up_left_same f f g c v u n i row (same_lower n f) same in
     fails (record {
       left_fits = subst (λ z. unsigned_abs z ≤ 2 ^ 66) left (up.left_fits i row);
-      fits = subst (λ z. unsigned_abs z ≤ 2 ^ 64) (up.rows i row ∙ ap (λ z. ratio z (f i i)) left) (up.fits i row);
+      fits = subst (λ z. unsigned_abs z ≤ 2 ^ 64) (up.rows i row ∙ ap (λ z. fixed_quotient z (f i i)) left) (up.fits i row);
     })
 
 -- ---- going down
@@ -81,12 +71,12 @@ SameFrom n m x y = (k : ℕ) → m ≤ k → k < n → x k ≡ y k
 pub down_left_same : (f h : ℕ → ℕ → ℤ) (u v x y : ℕ → ℤ) (n i : ℕ) → i < n → SameLower n f h → SameBelow n u v → SameFrom n (suc i) x y → down_left n f u x i ≡ down_left n h v y i
 down_left_same f h u v x y n i row same above past =
     minus_same _ _ _ _ (above i row)
-    (sum_to_same (n - suc i) (λ d. part (f (suc i + d) i) (x (suc i + d))) (λ d. part (h (suc i + d) i) (y (suc i + d)))
-    (λ d l. equal_parts (f (suc i + d) i) (h (suc i + d) i) (x (suc i + d)) (y (suc i + d)) (same (suc i + d) i (omega arith) (omega arith)) (past (suc i + d) (omega arith) (omega arith))))
+    (sum_to_same (n - suc i) (λ d. fixed_product (f (suc i + d) i) (x (suc i + d))) (λ d. fixed_product (h (suc i + d) i) (y (suc i + d)))
+    (λ d l. equal_fixed_products (f (suc i + d) i) (h (suc i + d) i) (x (suc i + d)) (y (suc i + d)) (same (suc i + d) i (omega arith) (omega arith)) (past (suc i + d) (omega arith) (omega arith))))
 
 pub down_same : (f h : ℕ → ℕ → ℤ) (u v x y : ℕ → ℤ) (n m : ℕ) → SameLower n f h → SameBelow n u v → SameFrom n m x y → IsDownFrom n m f u x → IsDownFrom n m h v y
 down_same f h u v x y n m same above past down = record {
-  rows = λ i from row. sym (past i from row) ∙ down.rows i from row ∙ equal_ratios _ _ (f i i) (h i i) (down_left_same f h u v x y n i row same above (λ k l lt. past k (omega arith) lt)) (same i i row (omega arith));
+  rows = λ i from row. sym (past i from row) ∙ down.rows i from row ∙ equal_fixed_quotients _ _ (f i i) (h i i) (down_left_same f h u v x y n i row same above (λ k l lt. past k (omega arith) lt)) (same i i row (omega arith));
   left_fits = λ i from row. subst (λ z. unsigned_abs z ≤ 2 ^ 66) (down_left_same f h u v x y n i row same above (λ k l lt. past k (omega arith) lt)) (down.left_fits i from row);
   fits = λ i from row. subst (λ z. unsigned_abs z ≤ 2 ^ 60) (past i from row) (down.fits i from row);
 }
@@ -126,7 +116,7 @@ down_alone_by (suc d) n m f u x y end a b =
     let past = down_alone_by d n (suc m) f u x y (omega arith) (fewer_down n m f u x a) (fewer_down n m f u y b) in
     earlier_same n m x y past (λ row.
     let left = down_left_same f f u u x y n m row (same_lower n f) (same_below n u) past in
-    a.rows m (omega arith) row ∙ ap (λ z. ratio z (f m m)) left ∙ sym (b.rows m (omega arith) row))
+    a.rows m (omega arith) row ∙ ap (λ z. fixed_quotient z (f m m)) left ∙ sym (b.rows m (omega arith) row))
 
 pub down_alone : (n m : ℕ) (f : ℕ → ℕ → ℤ) (u x y : ℕ → ℤ) → IsDownFrom n m f u x → IsDownFrom n m f u y → SameFrom n m x y
 down_alone n m f u x y a b = down_alone_by n n m f u x y (omega arith) a b
@@ -138,7 +128,7 @@ down_stops n i f u x y row so_far fails down =
     let left = down_left_same f f u u y x n i row (same_lower n f) (same_below n u) same in
     fails (record {
       left_fits = subst (λ z. unsigned_abs z ≤ 2 ^ 66) left (down.left_fits i row);
-      fits = subst (λ z. unsigned_abs z ≤ 2 ^ 60) (down.rows i row ∙ ap (λ z. ratio z (f i i)) left) (down.fits i row);
+      fits = subst (λ z. unsigned_abs z ≤ 2 ^ 60) (down.rows i row ∙ ap (λ z. fixed_quotient z (f i i)) left) (down.fits i row);
     })
 
 -- ---- columns

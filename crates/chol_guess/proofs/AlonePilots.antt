@@ -3,7 +3,7 @@
 use Rattle.std.proofs.Common.{◌≡◌, ◌≤◌, ◌<◌, ◌^◌, ◌∙◌, ℕ, suc, ℤ, pos, ◌≤ℤ◌, arith, ap, subst, unsigned_abs}
 use Rattle.std.proofs.Math.IntN.{◌-ℤ◌}
 use Rattle.whole_numbers.specs.Sum.{sum_to}
-use Rattle.chol_factor.specs.Factor.{part, ratio, left_of, IsRoot, IsColumn, HasColumns, IsPivot}
+use Rattle.chol_factor.specs.Factor.{fixed_product, fixed_quotient, left_of, IsRoot, IsColumn, HasColumns, IsPivot}
 use Rattle.chol_factor.proofs.Alone.{no_pivot_below}
 use Rattle.chol_guess.specs.Pilots.{PilotTable, IsPilot, IsCondition}
 
@@ -13,13 +13,13 @@ SameSquare n m v = (i k : ℕ) → i < n → k < n → m i k ≡ v i k
 
 -- ---- the same factors
 left_carries : (n : ℕ) (m v f : ℕ → ℕ → ℤ) (i j : ℕ) → SameSquare n m v → i < n → j < n → left_of m f i j ≡ left_of v f i j
-left_carries n m v f i j same row column = ap (λ a. a -ℤ sum_to j (λ k. part (f i k) (f j k))) (same i j row column)
+left_carries n m v f i j same row column = ap (λ a. a -ℤ sum_to j (λ k. fixed_product (f i k) (f j k))) (same i j row column)
 
 column_carries : (n : ℕ) (m v f : ℕ → ℕ → ℤ) (j : ℕ) → SameSquare n m v → j < n → IsColumn n m f j → IsColumn n v f j
 column_carries n m v f j same column c = record {
   pivot = subst (λ a. pos 1 ≤ℤ a) (left_carries n m v f j j same column column) c.pivot;
   root = subst (λ a. IsRoot a (f j j)) (left_carries n m v f j j same column column) c.root;
-  below = λ i l row. c.below i l row ∙ ap (λ a. ratio a (f j j)) (left_carries n m v f i j same row column);
+  below = λ i l row. c.below i l row ∙ ap (λ a. fixed_quotient a (f j j)) (left_carries n m v f i j same row column);
   left_fits = λ i l row. subst (λ a. unsigned_abs a ≤ 2 ^ 61) (left_carries n m v f i j same row column) (c.left_fits i l row);
   fits = c.fits;
 }

@@ -3,7 +3,7 @@ use Rattle.std.proofs.Common.{◌≡◌, ◌<◌, ◌∙◌, ℕ, ℤ, List, sub
 use Rattle.chol_factor.specs.Factor.{HasColumns}
 use Rattle.chol_guess.specs.Made.{IsPilotOf, IsRefusedOf}
 use Rattle.chol_guess.specs.Pilots.{PilotTable, IsPilot, IsCondition, nearest, pilot_word}
-use Rattle.chol_factor.specs.Squares.{grid}
+use Rattle.whole_numbers.specs.Lists.{grid}
 use Rattle.chol_guess.specs.Columns.{IsInverseColumn}
 use Rattle.chol_guess.specs.Refusals.{IsRefused}
 use Rattle.chol_guess.specs.Rows.{IsGreatestScale, IsFailure}

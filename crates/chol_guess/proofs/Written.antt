@@ -4,7 +4,7 @@ use Rattle.std.proofs.Math.Decide.{ℕ_discrete}
 use Rattle.std.proofs.lemmas.List.{get_or-set_same, get_or-set_other, length-set}
 use Rattle.std.proofs.lemmas.Grind.{get_or-set_at}
 use Rattle.std.proofs.lemmas.Nat.{mul-add-lt, same_from_place}
-use Rattle.chol_factor.specs.Squares.{at, grid, AllAtMost}
+use Rattle.whole_numbers.specs.Lists.{at, grid, AllAtMost}
 use Rattle.chol_guess.specs.Rows.{IsColumnWritten}
 
 -- so far as the rows before row m

@@ -2,7 +2,7 @@
 -- factor going up the rows, and by its transpose going down. Products and quotients are those of the factor.
 use Rattle.std.specs.Prelude.{◌≡◌, ◌≤◌, ◌<◌, ◌+◌, ◌-◌, ◌^◌, ℕ, suc, ℤ, pos, ◌-ℤ◌, unsigned_abs}
 use Rattle.whole_numbers.specs.Sum.{sum_to, unit}
-use Rattle.chol_factor.specs.Factor.{part, ratio}
+use Rattle.chol_factor.specs.Factor.{fixed_product, fixed_quotient}
 
 -- the sum of h k over the k past i and below n
 abbrev pub sum_past : ℕ → ℕ → (ℕ → ℤ) → ℤ
@@ -10,19 +10,19 @@ sum_past n i h = sum_to (n - suc i) (λ d. h (suc i + d))
 
 -- going up: what the rows before row i leave of 2^(g + 10) times the unit column c
 abbrev pub up_left : (ℕ → ℕ → ℤ) → ℕ → ℕ → (ℕ → ℤ) → ℕ → ℤ
-up_left f g c u i = unit c (pos (2 ^ (g + 10))) i -ℤ sum_to i (λ k. part (f i k) (u k))
+up_left f g c u i = unit c (pos (2 ^ (g + 10))) i -ℤ sum_to i (λ k. fixed_product (f i k) (u k))
 
 pub record IsUp (n : ℕ) (f : ℕ → ℕ → ℤ) (g c : ℕ) (u : ℕ → ℤ) : Type 0 where
-  pub rows : (i : ℕ) → i < n → u i ≡ ratio (up_left f g c u i) (f i i)
+  pub rows : (i : ℕ) → i < n → u i ≡ fixed_quotient (up_left f g c u i) (f i i)
   pub left_fits : (i : ℕ) → i < n → unsigned_abs (up_left f g c u i) ≤ 2 ^ 66
   pub fits : (i : ℕ) → i < n → unsigned_abs (u i) ≤ 2 ^ 64
 
 -- going down: what the rows past row i leave of u
 abbrev pub down_left : ℕ → (ℕ → ℕ → ℤ) → (ℕ → ℤ) → (ℕ → ℤ) → ℕ → ℤ
-down_left n f u x i = u i -ℤ sum_past n i (λ k. part (f k i) (x k))
+down_left n f u x i = u i -ℤ sum_past n i (λ k. fixed_product (f k i) (x k))
 
 pub record IsDown (n : ℕ) (f : ℕ → ℕ → ℤ) (u x : ℕ → ℤ) : Type 0 where
-  pub rows : (i : ℕ) → i < n → x i ≡ ratio (down_left n f u x i) (f i i)
+  pub rows : (i : ℕ) → i < n → x i ≡ fixed_quotient (down_left n f u x i) (f i i)
   pub left_fits : (i : ℕ) → i < n → unsigned_abs (down_left n f u x i) ≤ 2 ^ 66
   pub fits : (i : ℕ) → i < n → unsigned_abs (x i) ≤ 2 ^ 60
 

@@ -2,7 +2,7 @@
 -- Source: the approximate inverse of Rump 2010; its making, its scales and bounds are this program's own.
 use Rattle.std.specs.Prelude.{◌≡◌, ◌≤◌, ◌<◌, ◌*◌, ◌^◌, ◌%◌, ℕ, suc, ℤ, pos, ◌+ℤ◌, List, length}
 use Rattle.whole_numbers.specs.Quotients.{floor_over}
-use Rattle.chol_factor.specs.Squares.{grid, AllAtMost}
+use Rattle.whole_numbers.specs.Lists.{grid, AllAtMost}
 use Rattle.chol_factor.specs.Factor.{HasColumns}
 use Rattle.chol_guess.specs.Columns.{IsInverseColumn, StayInBounds}
 

@@ -1,7 +1,7 @@
 -- Columns as far as they are made, and the lists that they are read from and written to.
 use Rattle.std.specs.Prelude.{◌≡◌, ◌≢◌, ◌≤◌, ◌<◌, ◌*◌, ◌^◌, ℕ, suc, ℤ, List, length, unsigned_abs}
-use Rattle.chol_factor.specs.Factor.{ratio}
-use Rattle.chol_factor.specs.Squares.{at, grid, AllAtMost}
+use Rattle.chol_factor.specs.Factor.{fixed_quotient}
+use Rattle.whole_numbers.specs.Lists.{at, grid, AllAtMost}
 use Rattle.chol_guess.specs.Columns.{down_left, IsUp, IsInverseColumn, StayInBounds}
 use Rattle.chol_guess.specs.Pilots.{nearest, IsScale}
 
@@ -15,11 +15,11 @@ pub record IsTransposed (n : ℕ) (f : ℕ → ℕ → ℤ) (t : List ℤ) : Typ
 -- what is left of a row and its quotient are in bounds
 pub record QuotientFits (left diagonal : ℤ) (limit : ℕ) : Type 0 where
   pub left_fits : unsigned_abs left ≤ 2 ^ 66
-  pub fits : unsigned_abs (ratio left diagonal) ≤ limit
+  pub fits : unsigned_abs (fixed_quotient left diagonal) ≤ limit
 
 -- going down, as far as the rows from row m on
 pub record IsDownFrom (n m : ℕ) (f : ℕ → ℕ → ℤ) (u x : ℕ → ℤ) : Type 0 where
-  pub rows : (i : ℕ) → m ≤ i → i < n → x i ≡ ratio (down_left n f u x i) (f i i)
+  pub rows : (i : ℕ) → m ≤ i → i < n → x i ≡ fixed_quotient (down_left n f u x i) (f i i)
   pub left_fits : (i : ℕ) → m ≤ i → i < n → unsigned_abs (down_left n f u x i) ≤ 2 ^ 66
   pub fits : (i : ℕ) → m ≤ i → i < n → unsigned_abs (x i) ≤ 2 ^ 60
 

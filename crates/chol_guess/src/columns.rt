@@ -2,13 +2,13 @@
 
 ghost use Rattle.std.specs.Prelude.{◌≡◌, ◌≤◌, ◌<◌, ◌^◌, ℕ, ℤ, pos, ◌≤ℤ◌, length, SomeIff};
 ghost use Rattle.std.specs.Bool.{OnTrue, OnFalse};
-ghost use Rattle.chol_factor.specs.Factor.{factor_word, ratio};
-ghost use Rattle.chol_factor.specs.Squares.{at};
+ghost use Rattle.chol_factor.specs.Factor.{factor_word, fixed_quotient};
+ghost use Rattle.whole_numbers.specs.Lists.{at};
 ghost use Rattle.chol_guess.specs.Columns.{up_left, down_left, IsUp, IsDown, IsInverseColumn};
 ghost use Rattle.chol_guess.specs.Rows.{IsTransposed, QuotientFits, IsUpBefore, IsDownStart, IsDownAfter};
 
-use crate::kernels::wide_parts;
-use chol_factor::{Factor, parts, ratio};
+use crate::kernels::wide_fixed_products;
+use chol_factor::{Factor, fixed_products, fixed_quotient};
 
 /// The greatest size of what is left of a row.
 const LEFT_LIMIT: u128 = 1 << 66;
@@ -22,12 +22,12 @@ const DOWN_LIMIT: u128 = 1 << 60;
 /// The quotient, and None exactly where it passes the limit or what is left of the row passes its own.
 fn quotient(left: i128, diagonal: i64, limit: u128) -> Option<i128>
     requires { pos 1 ≤ℤ diagonal }
-    ensures { SomeIff result (QuotientFits left diagonal limit) (ratio left diagonal) }
+    ensures { SomeIff result (QuotientFits left diagonal limit) (fixed_quotient left diagonal) }
 {
     if left.unsigned_abs() > LEFT_LIMIT {
         return None;
     }
-    let next = ratio(left, diagonal);
+    let next = fixed_quotient(left, diagonal);
     if next.unsigned_abs() <= limit {
         Some(next)
     } else {
@@ -40,7 +40,7 @@ fn up_left(f: &Factor, g: u32, c: usize, u: &[i128], i: usize) -> i128
     requires { IsUpBefore f.now.size i (factor_word f.now) g c u.now }
     ensures { result ≡ up_left (factor_word f.now) g c (at u.now) i }
 {
-    let earlier = wide_parts(&f.row(i)[c..i], &u[c..i]);
+    let earlier = wide_fixed_products(&f.row(i)[c..i], &u[c..i]);
     if i == c {
         (1 << (g + 10)) - earlier
     } else {
@@ -51,7 +51,7 @@ fn up_left(f: &Factor, g: u32, c: usize, u: &[i128], i: usize) -> i128
 /// The number of row `i`, and None exactly where it passes its bounds.
 fn next_up(f: &Factor, g: u32, c: usize, u: &[i128], i: usize) -> Option<i128>
     requires { IsUpBefore f.now.size i (factor_word f.now) g c u.now }
-    ensures { SomeIff result (QuotientFits (up_left (factor_word f.now) g c (at u.now) i) (factor_word f.now i i) (2 ^ 64)) (ratio (up_left (factor_word f.now) g c (at u.now) i) (factor_word f.now i i)) }
+    ensures { SomeIff result (QuotientFits (up_left (factor_word f.now) g c (at u.now) i) (factor_word f.now i i) (2 ^ 64)) (fixed_quotient (up_left (factor_word f.now) g c (at u.now) i) (factor_word f.now i i)) }
 {
     quotient(up_left(f, g, c, u, i), f.diagonal(i), UP_LIMIT)
 }
@@ -91,14 +91,14 @@ fn down_left(f: &Factor, t: &[i64], u: &[i128], x: &[i64], i: usize) -> i128
     ensures { result ≡ down_left f.now.size (factor_word f.now) (at u.now) (at x.now) i }
 {
     let n = f.size();
-    u[i] - parts(&t[i * n + i + 1..i * n + n], &x[i + 1..n])
+    u[i] - fixed_products(&t[i * n + i + 1..i * n + n], &x[i + 1..n])
 }
 
 /// The number of row `i`, and None exactly where it passes its bounds.
 fn next_down(f: &Factor, t: &[i64], u: &[i128], x: &[i64], i: usize) -> Option<i64>
     requires start { IsDownStart f.now.size (factor_word f.now) t.now u.now }
     requires after { IsDownAfter f.now.size i (factor_word f.now) u.now x.now }
-    ensures { SomeIff result (QuotientFits (down_left f.now.size (factor_word f.now) (at u.now) (at x.now) i) (factor_word f.now i i) (2 ^ 60)) (ratio (down_left f.now.size (factor_word f.now) (at u.now) (at x.now) i) (factor_word f.now i i)) }
+    ensures { SomeIff result (QuotientFits (down_left f.now.size (factor_word f.now) (at u.now) (at x.now) i) (factor_word f.now i i) (2 ^ 60)) (fixed_quotient (down_left f.now.size (factor_word f.now) (at u.now) (at x.now) i) (factor_word f.now i i)) }
 {
     match quotient(down_left(f, t, u, x, i), f.diagonal(i), DOWN_LIMIT) {
         Some(next) => Some(next as i64),

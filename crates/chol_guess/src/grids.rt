@@ -2,7 +2,7 @@
 
 ghost use Rattle.std.specs.Prelude.{◌≡◌, ◌≤◌, ◌<◌, ◌*◌, length, IfOk};
 ghost use Rattle.chol_factor.specs.Factor.{factor_word};
-ghost use Rattle.chol_factor.specs.Squares.{AllAtMost};
+ghost use Rattle.whole_numbers.specs.Lists.{AllAtMost};
 ghost use Rattle.chol_guess.specs.Rows.{IsTransposed, IsColumnWritten};
 
 use chol_factor::Factor;

@@ -1,7 +1,7 @@
 //! The pilot of a working table.
 
 ghost use Rattle.std.specs.Prelude.{◌≤◌, IfOk, IfErr};
-ghost use Rattle.chol_factor.specs.Factor.{factor_word, middles};
+ghost use Rattle.chol_factor.specs.Factor.{factor_word, midpoints};
 ghost use Rattle.chol_guess.specs.Made.{IsPilotOf, IsRefusedOf};
 ghost use Rattle.chol_guess.specs.Pilots.{IsPilot};
 ghost use Rattle.chol_guess.specs.Refusals.{IsRefused};
@@ -43,8 +43,8 @@ pub fn pilot<R: Threads + Sync, const N: usize>(
 ) -> Result<Pilot, PilotError>
     requires some_workers { 1 ≤ _workers }
     requires few_workers { _workers ≤ 16 }
-    ensures value { IfOk result (IsPilot w.now.a.size (middles w.now.a)) }
-    ensures refused { IfErr result (IsRefused w.now.a.size (middles w.now.a)) }
+    ensures value { IfOk result (IsPilot w.now.a.size (midpoints w.now.a)) }
+    ensures refused { IfErr result (IsRefused w.now.a.size (midpoints w.now.a)) }
 {
     match factor(alloc, w) {
         Ok(f) => pilot_of(alloc, &f),

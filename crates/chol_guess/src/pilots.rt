@@ -2,7 +2,7 @@
 
 ghost use Rattle.std.specs.Prelude.{◌≡◌, ◌≤◌, ◌<◌, ◌+◌, ◌*◌, ◌^◌, ℕ, ℤ, List, length, unsigned_abs, SomeIff, IsTrue, ◌↔◌};
 ghost use Rattle.chol_guess.specs.Pilots.{PilotTable, IsScale, IsKept, pilot_word};
-ghost use Rattle.chol_factor.specs.Squares.{at, AllAtMost};
+ghost use Rattle.whole_numbers.specs.Lists.{at, AllAtMost};
 
 use std::marker::Model;
 

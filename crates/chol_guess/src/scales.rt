@@ -3,7 +3,7 @@
 ghost use Rattle.std.specs.Prelude.{◌≡◌, ◌≤◌, ◌<◌, ◌^◌, ℕ, ℤ, length, unsigned_abs, IfSome, IfNone, IfOk, IfErr};
 ghost use Rattle.std.specs.Bool.{OnTrue, OnFalse};
 ghost use Rattle.chol_factor.specs.Factor.{factor_word};
-ghost use Rattle.chol_factor.specs.Squares.{at, AllAtMost};
+ghost use Rattle.whole_numbers.specs.Lists.{at, AllAtMost};
 ghost use Rattle.chol_guess.specs.Columns.{IsInverseColumn};
 ghost use Rattle.chol_guess.specs.Pilots.{nearest};
 ghost use Rattle.chol_guess.specs.Rows.{IsTransposed, HasColumn, PlacesColumns, KeepsColumns, IsFirstFailing, IsGreatestScale, IsFailure, IsRoom};

@@ -1,7 +1,7 @@
 //! Pilots of small tables, at the edges of each bound.
 
 ghost use Rattle.std.specs.Prelude.{◌≡◌, ◌≤◌, ◌<◌, ◌^◌, ℕ, unsigned_abs, IfOk};
-ghost use Rattle.whole_numbers.specs.Words.{size};
+ghost use Rattle.whole_numbers.specs.Intervals.{size};
 ghost use Rattle.sym_blocks.specs.Tables.{word};
 
 use crate::{Pilot, PilotError, pilot};

@@ -1,8 +1,8 @@
 -- What a run that wrote its report promises.
 use Rattle.std.specs.Prelude.{◌≡◌, ◌∷◌, ℕ, true, List, [], length, Some, Option}
 use Rattle.desk_io.specs.Content.{File}
-use Rattle.sys_model.specs.Systems.{System}
-use Rattle.bounds_report.specs.Bounds.{LiesInStack, AreCertified}
+use Rattle.sys_model.specs.Systems.{System, LiesInStack}
+use Rattle.bounds_report.specs.Bounds.{AreCertified}
 use Rattle.bounds_report.specs.Printing.{numbers_at}
 use Rattle.solve_plain.specs.Exact.{IsExact}
 use Rattle.solve_plain.specs.Files.{file_words, apriori_of}

@@ -4,7 +4,7 @@ use Rattle.std.proofs.lemmas.List.{length_push}
 use Rattle.std.proofs.lemmas.Nat.{pow-add}
 use Rattle.std.proofs.Math.Nat.{mul-le-mul_right}
 use Rattle.std.proofs.Math.Decide.{dec_le}
-use Rattle.whole_numbers.proofs.Powers.{ten_le, ten_above}
+use Rattle.whole_numbers.proofs.Powers.{ten_le, ten_pow_above}
 use Rattle.decimal_e.specs.declared.cut.Kind.{Kind}
 use Rattle.decimal_e.specs.Grammar.{Is, IsRun}
 use Rattle.decimal_e.specs.Digits.{number}
@@ -44,7 +44,7 @@ pub with_digit : (v t z b : ℕ) → v < 10 ^ t → b ≤ 9 → v * 10 ^ (z + 1)
 with_digit v t z b h l =
     let p = pow-add 10 t (z + 1) in
     let q = pow-add 10 z 1 in
-    let s = ten_above z in
+    let s = ten_pow_above z in
     let m = mul-le-mul_right (10 ^ (z + 1)) h in
     let e : 10 ^ (t + z + 1) ≡ 10 ^ (t + (z + 1)) = ap (λ x. 10 ^ x) (omega arith) in
     omega (arith, p, q, s, m, e)

@@ -5,15 +5,15 @@ use Rattle.std.proofs.lemmas.Nat.{pow-add}
 use Rattle.std.proofs.Math.IntN.{◌-ℤ◌}
 use Rattle.std.proofs.Math.Nat.{mul-pos}
 use Rattle.std.proofs.Math.Decide.{ℕ_discrete}
-use Rattle.whole_numbers.specs.Scaling.{floor_scaled, ceil_scaled}
-use Rattle.whole_numbers.specs.Words.{Holds}
+use Rattle.whole_numbers.specs.Scaling.{floor_scaled, ceil_scaled, ten_above, ten_below}
+use Rattle.whole_numbers.specs.Intervals.{Holds}
 use Rattle.whole_numbers.proofs.Cases.{zero_or_not}
 use Rattle.whole_numbers.proofs.EqualFractions.{same_from_product}
-use Rattle.whole_numbers.proofs.Powers.{ten_above as ten_some}
+use Rattle.whole_numbers.proofs.Powers.{ten_pow_above as ten_some}
 use Rattle.whole_numbers.proofs.Ring.{ring, *ℤ_assoc, neg-*ℤ}
-use Rattle.whole_numbers.proofs.WordLaws.{floor_over_le, le-ceil_over}
-use Rattle.decimal_e.specs.Decimals.{Decimal, ten_above, ten_below, SameValue, IsCanonical, IsCanonicalOf, IsBounded, signed_like}
-use Rattle.decimal_e.specs.Scales.{decimal_word}
+use Rattle.whole_numbers.proofs.IntervalLaws.{floor_over_le, le-ceil_over}
+use Rattle.decimal_e.specs.Decimals.{Decimal, SameValue, IsCanonical, IsCanonicalOf, IsBounded, signed_like}
+use Rattle.decimal_e.specs.Scales.{decimal_interval}
 
 -- the fraction of a power of ten is above 0
 above_some : (e : ℤ) → 0 < ten_above e
@@ -83,7 +83,7 @@ holds_at m (negsuc k) =
     let one : m *ℤ pos 1 ≡ m = omega (arith, ints) in
     record { above = rw one f; below = rw one g }
 
-pub holds_word : (d : Decimal) (k : ℤ) → Holds (decimal_word d k) (d.mant *ℤ pos (ten_above (d.exp +ℤ k))) (ten_below (d.exp +ℤ k))
+pub holds_word : (d : Decimal) (k : ℤ) → Holds (decimal_interval d k) (d.mant *ℤ pos (ten_above (d.exp +ℤ k))) (ten_below (d.exp +ℤ k))
 holds_word d k = holds_at d.mant (d.exp +ℤ k)
 
 -- ---- canonical forms

@@ -1,19 +1,11 @@
 -- Decimals: a whole number times a power of ten.
 use Rattle.std.specs.Prelude.{◌≡◌, ◌≢◌, ℕ, suc, ℤ, pos, negsuc, ◌*ℤ◌, neg_ℤ, ◌≤ℤ◌, ◌<◌, ◌*◌, ◌^◌, ◌%◌, unsigned_abs}
+use Rattle.whole_numbers.specs.Scaling.{ten_above, ten_below}
 
 -- the number mant * 10^exp
 pub record Decimal : Type 0 where
   pub mant : ℤ
   pub exp : ℤ
-
--- 10^e is the fraction ten_above e / ten_below e
-abbrev pub ten_above : ℤ → ℕ
-ten_above (pos k) = 10 ^ k
-ten_above (negsuc k) = 1
-
-abbrev pub ten_below : ℤ → ℕ
-ten_below (pos k) = 1
-ten_below (negsuc k) = 10 ^ suc k
 
 -- two decimals are one number: their fractions multiplied crosswise
 pub record SameValue (a b : Decimal) : Type 0 where

@@ -1,6 +1,7 @@
 -- Decimals as fractions of whole numbers.
-use Rattle.std.specs.Prelude.{ℕ, ℤ, pos, ◌*ℤ◌, ◌*◌, ◌≤◌, unsigned_abs}
-use Rattle.decimal_e.specs.Decimals.{Decimal, ten_above, ten_below}
+use Rattle.std.specs.Prelude.{◌≡◌, ℕ, ℤ, pos, ◌*ℤ◌, ◌*◌, ◌≤◌, unsigned_abs}
+use Rattle.decimal_e.specs.Decimals.{Decimal}
+use Rattle.whole_numbers.specs.Scaling.{ten_above, ten_below}
 
 -- what stands above the line, and below it
 abbrev pub numerator : Decimal → ℤ
@@ -12,3 +13,7 @@ denominator d = ten_below d.exp
 -- at most the number in size
 abbrev pub IsAtMost : ℕ → Decimal → Type 0
 IsAtMost most d = unsigned_abs (numerator d) ≤ most * denominator d
+
+-- the fraction x / q is the decimal
+abbrev pub Means : Decimal → ℤ → ℕ → Type 0
+Means d x q = numerator d *ℤ pos q ≡ x *ℤ pos (denominator d)

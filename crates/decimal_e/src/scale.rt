@@ -1,7 +1,7 @@
 //! Decimals times powers of ten, rounded to whole numbers.
 
 ghost use Rattle.std.specs.Prelude.{pos, negsuc, ◌≤ℤ◌, ◌≤◌, ◌^◌, unsigned_abs, SomeIff};
-ghost use Rattle.decimal_e.specs.Scales.{decimal_word, HoldsValue};
+ghost use Rattle.decimal_e.specs.Scales.{decimal_interval, HoldsValue};
 
 use crate::dec::Dec;
 use whole_numbers::{scale_ceil, scale_floor};
@@ -10,7 +10,7 @@ use whole_numbers::{scale_ceil, scale_floor};
 pub fn floor_at(d: &Dec, k: i32) -> Option<i128>
     requires low { negsuc 99 ≤ℤ k }
     requires high { k ≤ℤ pos 100 }
-    ensures { let floor = (decimal_word d.now k).lo in SomeIff result (unsigned_abs floor ≤ 10 ^ 37) floor }
+    ensures { let floor = (decimal_interval d.now k).lo in SomeIff result (unsigned_abs floor ≤ 10 ^ 37) floor }
 {
     scale_floor(d.mant(), d.exp() + k)
 }
@@ -19,7 +19,7 @@ pub fn floor_at(d: &Dec, k: i32) -> Option<i128>
 pub fn ceil_at(d: &Dec, k: i32) -> Option<i128>
     requires low { negsuc 99 ≤ℤ k }
     requires high { k ≤ℤ pos 100 }
-    ensures { let ceiling = (decimal_word d.now k).hi in SomeIff result (unsigned_abs ceiling ≤ 10 ^ 37) ceiling }
+    ensures { let ceiling = (decimal_interval d.now k).hi in SomeIff result (unsigned_abs ceiling ≤ 10 ^ 37) ceiling }
 {
     scale_ceil(d.mant(), d.exp() + k)
 }

@@ -3,7 +3,7 @@
 ghost use Rattle.std.specs.Prelude.{◌≡◌, ◌↔◌, IsTrue, pos, negsuc, codes, []};
 ghost use Rattle.decimal_e.specs.Digits.{number};
 ghost use Rattle.decimal_e.specs.Grammar.{value_of};
-ghost use Rattle.decimal_e.specs.Scales.{decimal_word};
+ghost use Rattle.decimal_e.specs.Scales.{decimal_interval};
 
 use super::*;
 use std::test::Fail;
@@ -71,7 +71,7 @@ fn evaluated()
       power = record { letter = []; sign = codes "-"; digits = codes "10" };
     }) ≡ record { mant = pos 5; exp = negsuc 10 } }
     ensures digits { number (codes "0012") ≡ 12 }
-    ensures rounded { decimal_word (record { mant = negsuc 14; exp = negsuc 0 }) (pos 0) ≡ record { lo = negsuc 1; hi = negsuc 0 } }
+    ensures rounded { decimal_interval (record { mant = negsuc 14; exp = negsuc 0 }) (pos 0) ≡ record { lo = negsuc 1; hi = negsuc 0 } }
 {}
 
 // Equality of decimals is equality of their values.

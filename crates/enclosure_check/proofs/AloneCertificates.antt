@@ -2,26 +2,26 @@
 -- where it does not.
 use Rattle.std.proofs.Common.{◌≡◌, ◌≤◌, ◌<◌, ◌+◌, ◌-◌, ◌*◌, ◌^◌, ◌∙◌, ℕ, ℤ, arith, sym, ap, subst, slice_index_or}
 use Rattle.whole_numbers.specs.Quotients.{up_over}
-use Rattle.whole_numbers.specs.Words.{Word, size, word_sub, word_scale, word_shift}
-use Rattle.whole_numbers.proofs.Cases.{neither_less}
-use Rattle.whole_numbers.proofs.WordLaws.{sum_words_same}
-use Rattle.sys_model.specs.Systems.{Table, row_parts, left_word, row_error, rho}
+use Rattle.whole_numbers.specs.Intervals.{Interval, size, interval_sub, interval_scale, interval_shift}
+use Rattle.stated_order.proofs.FirstLaws.{neither_less}
+use Rattle.whole_numbers.proofs.IntervalLaws.{sum_intervals_same}
+use Rattle.sys_model.specs.Systems.{Table, row_parts, residual_interval, row_error, rho}
 use Rattle.chol_guess.specs.Pilots.{PilotTable, pilot_word}
-use Rattle.chol_guess.proofs.Alone.{SameBelow}
 use Rattle.chol_guess.proofs.AlonePilots.{SameSquare}
-use Rattle.enclosure_check.specs.Least.{IsLeast}
 use Rattle.enclosure_check.specs.Certificates.{LeftFitsAfter, parts_of, error_of, IsCertified, IsResidual, IsDefect}
 use Rattle.enclosure_check.specs.declared.Radius.{Radius}
 use Rattle.enclosure_check.proofs.AloneVectors.{SameTable, SamePilot, flipped_below, flipped_table, flipped_pilot, least_alone}
 use Rattle.enclosure_check.proofs.CertificateLaws.{greatest_to_same, le-greatest_to}
 use Rattle.enclosure_check.proofs.DefectLaws.{row_parts_same}
+use Rattle.whole_numbers.specs.Lists.{SameBelow}
+use Rattle.stated_order.specs.First.{IsLeast}
 
 -- ---- equal words
-scale_same : (a b : ℤ) (w v : Word) → a ≡ b → w ≡ v → word_scale a w ≡ word_scale b v
+scale_same : (a b : ℤ) (w v : Interval) → a ≡ b → w ≡ v → interval_scale a w ≡ interval_scale b v
 scale_same a b w v e d = cc
 
-pub sub_same : (w v x y : Word) → w ≡ v → x ≡ y → word_sub w x ≡ word_sub v y
-sub_same w v x y e d = ap (λ a. word_sub a x) e ∙ ap (λ b. word_sub v b) d
+pub sub_same : (w v x y : Interval) → w ≡ v → x ≡ y → interval_sub w x ≡ interval_sub v y
+sub_same w v x y e d = ap (λ a. interval_sub a x) e ∙ ap (λ b. interval_sub v b) d
 
 -- ---- equal defects
 parts_same_words : (n g : ℕ) (r s : ℕ → ℕ → ℤ) (t u : Table) (i : ℕ) → SameSquare n r s → SameTable n t u → i < n → row_parts n g r t i ≡ row_parts n g s u i
@@ -32,12 +32,12 @@ parts_same n t u p q i table pilot row =
     parts_same_words n p.g (pilot_word p) (pilot_word q) t u i pilot.words table row ∙ ap (λ g. row_parts n g (pilot_word q) u i) pilot.g
 
 -- ---- equal errors
-left_word_same : (n : ℕ) (t u : Table) (y z : ℕ → ℤ) (i : ℕ) → SameTable n t u → SameBelow n y z → i < n → left_word n t y i ≡ left_word n u z i
-left_word_same n t u y z i table same row =
-    sub_same _ _ _ _ (table.rights i row) (sum_words_same n (λ j. word_scale (y j) (t.entry i j)) (λ j. word_scale (z j) (u.entry i j)) (λ j l. scale_same _ _ _ _ (same j l) (table.entries i j row l)))
+residual_interval_same : (n : ℕ) (t u : Table) (y z : ℕ → ℤ) (i : ℕ) → SameTable n t u → SameBelow n y z → i < n → residual_interval n t y i ≡ residual_interval n u z i
+residual_interval_same n t u y z i table same row =
+    sub_same _ _ _ _ (table.rights i row) (sum_intervals_same n (λ j. interval_scale (y j) (t.entry i j)) (λ j. interval_scale (z j) (u.entry i j)) (λ j l. scale_same _ _ _ _ (same j l) (table.entries i j row l)))
 
 fits_carry : (n : ℕ) (t u : Table) (y z : ℕ → ℤ) (h : ℕ) → SameTable n t u → SameBelow n y z → LeftFitsAfter n t y h → LeftFitsAfter n u z h
-fits_carry n t u y z h table same fits i row = subst (λ w. size (word_shift h w) ≤ 2 ^ 66) (left_word_same n t u y z i table same row) (fits i row)
+fits_carry n t u y z h table same fits i row = subst (λ w. size (interval_shift h w) ≤ 2 ^ 66) (residual_interval_same n t u y z i table same row) (fits i row)
 
 -- two least shifts are equal
 shift_alone : (n : ℕ) (t u : Table) (y z : ℕ → ℤ) (h k : ℕ) → SameTable n t u → SameBelow n y z → IsLeast (LeftFitsAfter n t y) h → IsLeast (LeftFitsAfter n u z) k → h ≡ k
@@ -47,8 +47,8 @@ shift_alone n t u y z h k table same a b =
 errors_same_words : (n g h : ℕ) (r s : ℕ → ℕ → ℤ) (t u : Table) (y z : ℕ → ℤ) (i : ℕ) → SameSquare n r s → SameTable n t u → SameBelow n y z → i < n → row_error n g h r t y i ≡ row_error n g h s u z i
 errors_same_words n g h r s t u y z i words table same row =
     ap (λ w. up_over (size w) (2 ^ (g + 60 - h)))
-    (sum_words_same n (λ k. word_scale (r i k) (word_shift h (left_word n t y k))) (λ k. word_scale (s i k) (word_shift h (left_word n u z k)))
-    (λ k l. scale_same _ _ _ _ (words i k row l) (ap (word_shift h) (left_word_same n t u y z k table same l))))
+    (sum_intervals_same n (λ k. interval_scale (r i k) (interval_shift h (residual_interval n t y k))) (λ k. interval_scale (s i k) (interval_shift h (residual_interval n u z k)))
+    (λ k l. scale_same _ _ _ _ (words i k row l) (ap (interval_shift h) (residual_interval_same n t u y z k table same l))))
 
 pub error_same : (n : ℕ) (t u : Table) (p q : PilotTable) (y z : ℕ → ℤ) (h k i : ℕ) → SameTable n t u → SamePilot n p q → SameBelow n y z → h ≡ k → i < n → error_of n t p y h i ≡ error_of n u q z k i
 error_same n t u p q y z h k i table pilot same shift row =

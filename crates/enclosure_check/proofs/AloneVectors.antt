@@ -3,14 +3,15 @@
 use Rattle.std.proofs.Common.{◌≡◌, ◌≤◌, ◌<◌, ◌+◌, ◌-◌, ◌^◌, ◌∙◌, ℕ, zero, suc, ℤ, ◌+ℤ◌, ◌*ℤ◌, arith, refl, sym, ap, subst, unsigned_abs}
 use Rattle.std.proofs.Math.Decide.{dec_lt}
 use Rattle.whole_numbers.specs.Quotients.{floor_over}
-use Rattle.whole_numbers.proofs.Cases.{neither_less}
+use Rattle.stated_order.proofs.FirstLaws.{neither_less}
 use Rattle.whole_numbers.proofs.Sums.{sum_to_same, total_part, total_to_same}
 use Rattle.sys_model.specs.Systems.{Table}
-use Rattle.chol_factor.specs.Factor.{middle}
 use Rattle.chol_guess.specs.Pilots.{PilotTable, pilot_word}
-use Rattle.chol_guess.proofs.Alone.{SameBelow, minus_same, product_same}
-use Rattle.enclosure_check.specs.Least.{IsLeast}
-use Rattle.enclosure_check.specs.Vectors.{middle_left, AllFitAfter, moved, IsTurn, IsSmall, AfterTurns, IsStartVector, IsVectorRange}
+use Rattle.enclosure_check.specs.Vectors.{midpoint_residual, AllFitAfter, moved, IsTurn, IsSmall, AfterTurns, IsStartVector, IsVectorRange}
+use Rattle.whole_numbers.specs.Intervals.{midpoint}
+use Rattle.whole_numbers.specs.Lists.{SameBelow}
+use Rattle.whole_numbers.proofs.ListLaws.{minus_same, product_same}
+use Rattle.stated_order.specs.First.{IsLeast}
 
 -- ---- equal in n rows
 pub record SameTable (n : ℕ) (t u : Table) : Type 0 where
@@ -35,10 +36,10 @@ pub least_alone : (P Q : ℕ → Type 0) (h k : ℕ) → ((x : ℕ) → P x → 
 least_alone P Q h k to from p q = neither_less h k (λ l. q.before h l (to h p.here)) (λ l. p.before k l (from k q.here))
 
 -- ---- one turn
-middle_left_same : (n : ℕ) (t u : Table) (y z : ℕ → ℤ) → SameTable n t u → SameBelow n y z → SameBelow n (middle_left n t y) (middle_left n u z)
+middle_left_same : (n : ℕ) (t u : Table) (y z : ℕ → ℤ) → SameTable n t u → SameBelow n y z → SameBelow n (midpoint_residual n t y) (midpoint_residual n u z)
 middle_left_same n t u y z table same i row =
-    minus_same _ _ _ _ (ap middle (table.rights i row))
-    (sum_to_same n (λ j. middle (t.entry i j) *ℤ y j) (λ j. middle (u.entry i j) *ℤ z j) (λ j l. product_same _ _ _ _ (ap middle (table.entries i j row l)) (same j l)))
+    minus_same _ _ _ _ (ap midpoint (table.rights i row))
+    (sum_to_same n (λ j. midpoint (t.entry i j) *ℤ y j) (λ j. midpoint (u.entry i j) *ℤ z j) (λ j l. product_same _ _ _ _ (ap midpoint (table.entries i j row l)) (same j l)))
 
 fits_carry : (n : ℕ) (q r : ℕ → ℤ) (h : ℕ) → SameBelow n q r → AllFitAfter n q h → AllFitAfter n r h
 fits_carry n q r h same fits i row = subst (λ a. unsigned_abs (floor_over a (2 ^ h)) ≤ 2 ^ 66) (same i row) (fits i row)
@@ -59,8 +60,8 @@ moved_same n p q c d h l y z pilot left shift same i row =
 turn_same : (n : ℕ) (t u : Table) (p q : PilotTable) (y z c d : ℕ → ℤ) → SameTable n t u → SamePilot n p q → SameBelow n y z → IsTurn n t p y c → IsTurn n u q z d → SameBelow n c d
 turn_same n t u p q y z c d table pilot same a b i row =
     let left = middle_left_same n t u y z table same in
-    let back = flipped_below n (middle_left n t y) (middle_left n u z) left in
-    let shift : a.h ≡ b.h = least_alone (AllFitAfter n (middle_left n t y)) (AllFitAfter n (middle_left n u z)) a.h b.h (λ x. fits_carry n _ _ x left) (λ x. fits_carry n _ _ x back) a.shift b.shift in
+    let back = flipped_below n (midpoint_residual n t y) (midpoint_residual n u z) left in
+    let shift : a.h ≡ b.h = least_alone (AllFitAfter n (midpoint_residual n t y)) (AllFitAfter n (midpoint_residual n u z)) a.h b.h (λ x. fits_carry n _ _ x left) (λ x. fits_carry n _ _ x back) a.shift b.shift in
     a.rows i row ∙ moved_same n p q _ _ a.h b.h y z pilot left shift same i row ∙ sym (b.rows i row)
 
 -- ---- all turns

@@ -2,7 +2,7 @@
 use Rattle.std.proofs.Common.{◌≡◌, ◌∙◌, ◌≤◌, ◌<◌, ◌+◌, ◌*◌, ◌^◌, ℕ, zero, suc, ℤ, max, slice_index, slice_index_or, List, length, ap, refl, sym, subst, arith, add-one}
 use Rattle.std.proofs.Math.Decide.{dec_lt}
 use Rattle.whole_numbers.specs.Quotients.{up_over}
-use Rattle.whole_numbers.specs.Words.{Holds}
+use Rattle.whole_numbers.specs.Intervals.{Holds}
 use Rattle.sys_model.specs.Systems.{Table, Encloses, around, rho, radius}
 use Rattle.sys_model.proofs.Exist.{encloses}
 use Rattle.chol_guess.specs.Pilots.{PilotTable, pilot_word}
@@ -12,7 +12,7 @@ use Rattle.enclosure_check.specs.declared.Radius.{Radius}
 use Rattle.enclosure_check.specs.Answers.{IsCheckRefused}
 use Rattle.enclosure_check.specs.CertificateLists.{NonePast, greatest_of, IsFirstGreatest, HasRadii, IsWhole, IsDefectRefused}
 use Rattle.enclosure_check.specs.Certificates.{parts_of, error_of, IsCertified, IsDefect, AreErrors, AreDefects}
-use Rattle.enclosure_check.specs.Least.{greatest_to}
+use Rattle.whole_numbers.specs.Least.{greatest_to}
 
 pub greatest_to_le : (n : ℕ) (f : ℕ → ℕ) (a : ℕ) → ((k : ℕ) → k < n → f k ≤ a) → greatest_to n f ≤ a
 greatest_to_le zero f a h = omega arith

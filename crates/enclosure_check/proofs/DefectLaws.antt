@@ -6,44 +6,44 @@ use Rattle.std.proofs.lemmas.Nat.{mul-add-lt, div-mul-add, mod-mul-add, div_belo
 use Rattle.std.proofs.lemmas.Grind.{div_ceil_times}
 use Rattle.std.proofs.Math.Nat.{mul-le-mul_right, le_of_mul-le-mul_left}
 use Rattle.whole_numbers.specs.Quotients.{up_over}
-use Rattle.whole_numbers.specs.Words.{Word, size, word_add, word_scale}
+use Rattle.whole_numbers.specs.Intervals.{Interval, size, interval_add, interval_scale}
 use Rattle.whole_numbers.proofs.Sizes.{size_scale, size_sum_by}
 use Rattle.whole_numbers.specs.Sum.{total_to}
 use Rattle.whole_numbers.proofs.Sums.{total_to_same, total_to-bound}
-use Rattle.whole_numbers.proofs.WordLaws.{sum_words_same, two_pow_above}
+use Rattle.whole_numbers.proofs.IntervalLaws.{sum_intervals_same, two_pow_above}
 use Rattle.sys_model.specs.Systems.{Table, row_parts}
 use Rattle.sys_model.proofs.Enclose.{pow_split}
 use Rattle.sym_blocks.specs.Tables.{SymTable, word}
 use Rattle.sym_blocks.proofs.Rows.{word_sym}
 use Rattle.equil.specs.Tables.{table_of}
-use Rattle.chol_factor.specs.Squares.{at, AllAtMost}
+use Rattle.whole_numbers.specs.Lists.{at, AllAtMost}
 use Rattle.chol_guess.specs.Pilots.{PilotTable, pilot_word}
 use Rattle.enclosure_check.specs.Certificates.{parts_of}
 use Rattle.enclosure_check.specs.Defects.{word_between, products_to, clipped_left, turned_table, AreRows, HasWords}
 use Rattle.enclosure_check.proofs.ErrorLaws.{step_fits}
 
 -- the numbers and the words below n are in their bounds
-pub record InBounds (n : ℕ) (r : ℕ → ℤ) (f : ℕ → Word) : Type 0 where
+pub record InBounds (n : ℕ) (r : ℕ → ℤ) (f : ℕ → Interval) : Type 0 where
   pub few : n ≤ 1000
   pub numbers : (k : ℕ) → k < n → unsigned_abs (r k) ≤ 2 ^ 50
   pub words : (k : ℕ) → k < n → size (f k) ≤ 2 ^ 61
 
 -- a sum of products of such numbers and words
-pub size_products : (n m : ℕ) (r : ℕ → ℤ) (f : ℕ → Word) → InBounds n r f → m ≤ n → size (products_to m r f) ≤ 2 ^ 121
+pub size_products : (n m : ℕ) (r : ℕ → ℤ) (f : ℕ → Interval) → InBounds n r f → m ≤ n → size (products_to m r f) ≤ 2 ^ 121
 size_products n m r f b part =
-    let s = size_sum_by m (λ k. word_scale (r k) (f k)) in
-    let t = total_to-bound m (λ k. size (word_scale (r k) (f k))) (2 ^ 111) (λ k l. size_scale (r k) (f k) (2 ^ 50) (2 ^ 61) (b.numbers k (omega arith)) (b.words k (omega arith))) in
+    let s = size_sum_by m (λ k. interval_scale (r k) (f k)) in
+    let t = total_to-bound m (λ k. size (interval_scale (r k) (f k))) (2 ^ 111) (λ k l. size_scale (r k) (f k) (2 ^ 50) (2 ^ 61) (b.numbers k (omega arith)) (b.words k (omega arith))) in
     omega (arith, s, t, b.few)
 
 -- it is the sum of one product more, and it fits
-pub record AddsProduct (k : ℕ) (r : ℕ → ℤ) (f : ℕ → Word) (w v : Word) : Type 0 where
-  pub sum : word_add w v ≡ products_to (k + 1) r f
+pub record AddsProduct (k : ℕ) (r : ℕ → ℤ) (f : ℕ → Interval) (w v : Interval) : Type 0 where
+  pub sum : interval_add w v ≡ products_to (k + 1) r f
   pub lo_fits : FitsSigned w128 (w.lo +ℤ v.lo)
   pub hi_fits : FitsSigned w128 (w.hi +ℤ v.hi)
 
-pub adds_product : (n k : ℕ) (r : ℕ → ℤ) (f : ℕ → Word) (w v : Word) → InBounds n r f → k < n → w ≡ products_to k r f → v ≡ word_scale (r k) (f k) → AddsProduct k r f w v
+pub adds_product : (n k : ℕ) (r : ℕ → ℤ) (f : ℕ → Interval) (w v : Interval) → InBounds n r f → k < n → w ≡ products_to k r f → v ≡ interval_scale (r k) (f k) → AddsProduct k r f w v
 adds_product n k r f w v b l e d =
-    let fits = step_fits k (λ j. word_scale (r j) (f j)) w v e d (omega (arith, size_products n (k + 1) r f b (omega arith))) in
+    let fits = step_fits k (λ j. interval_scale (r j) (f j)) w v e d (omega (arith, size_products n (k + 1) r f b (omega arith))) in
     record { sum = rw (e, d, add-one) refl; lo_fits = fits.0; hi_fits = fits.1 }
 
 pub rows_in_bounds : (r low high : List ℤ) → AreRows r low high → InBounds (length r) (at r) (word_between low high)
@@ -62,7 +62,7 @@ parts_small g total h =
     omega (arith, le_of_mul-le-mul_left b (two_pow_above (g + 30)))
 
 -- at most 1000 clipped sizes
-pub total_small : (m g i : ℕ) (f : ℕ → Word) → m ≤ 1000 → total_to m (λ j. clipped_left g i j (f j)) ≤ 1000 * 2 ^ (g + 60)
+pub total_small : (m g i : ℕ) (f : ℕ → Interval) → m ≤ 1000 → total_to m (λ j. clipped_left g i j (f j)) ≤ 1000 * 2 ^ (g + 60)
 total_small m g i f few =
     let t = total_to-bound m (λ j. clipped_left g i j (f j)) (2 ^ (g + 60)) (λ j l. omega arith) in
     let u = mul-le-mul_right (2 ^ (g + 60)) few in
@@ -73,9 +73,9 @@ pub column_in_bounds : (n : ℕ) (a : SymTable) (r : List ℤ) (j : ℕ) → n �
 column_in_bounds n a r j few len numbers words column = record { few = few; numbers = λ k l. numbers k (omega arith); words = λ k l. words k j l column }
 
 -- ---- what the sums are
-pub products_same : (n : ℕ) (r s : ℕ → ℤ) (f h : ℕ → Word) → ((k : ℕ) → k < n → r k ≡ s k) → ((k : ℕ) → k < n → f k ≡ h k) → products_to n r f ≡ products_to n s h
+pub products_same : (n : ℕ) (r s : ℕ → ℤ) (f h : ℕ → Interval) → ((k : ℕ) → k < n → r k ≡ s k) → ((k : ℕ) → k < n → f k ≡ h k) → products_to n r f ≡ products_to n s h
 products_same n r s f h e d =
-    sum_words_same n (λ k. word_scale (r k) (f k)) (λ k. word_scale (s k) (h k)) (λ k l. ap (λ z. word_scale z (f k)) (e k l) ∙ ap (word_scale (s k)) (d k l))
+    sum_intervals_same n (λ k. interval_scale (r k) (f k)) (λ k. interval_scale (s k) (h k)) (λ k l. ap (λ z. interval_scale z (f k)) (e k l) ∙ ap (interval_scale (s k)) (d k l))
 
 pub row_parts_same : (n g i : ℕ) (r s : ℕ → ℕ → ℤ) (t u : Table) → ((k : ℕ) → k < n → r i k ≡ s i k) → ((k j : ℕ) → k < n → j < n → t.entry k j ≡ u.entry k j) → row_parts n g r t i ≡ row_parts n g s u i
 row_parts_same n g i r s t u e d =
@@ -119,7 +119,7 @@ words_of_rows n a low high each j k row column =
     each (j * n + k) (mul-add-lt j n k n row column) ∙ rw (d, m) refl
 
 -- the defect by the rows of the lists is that by the columns of the table
-pub turned_parts : (m n i parts : ℕ) (a : SymTable) (d : List Word) (p : PilotTable) (low high : List ℤ) → m ≡ n → HasWords n a low high → parts ≡ parts_of m (turned_table m low high) p i → parts ≡ parts_of n (table_of a d) p i
+pub turned_parts : (m n i parts : ℕ) (a : SymTable) (d : List Interval) (p : PilotTable) (low high : List ℤ) → m ≡ n → HasWords n a low high → parts ≡ parts_of m (turned_table m low high) p i → parts ≡ parts_of n (table_of a d) p i
 turned_parts m n i parts a d p low high size words is =
     is ∙ ap (λ k. parts_of k (turned_table k low high) p i) size
     ∙ row_parts_same n p.g i (pilot_word p) (pilot_word p) (turned_table n low high) (table_of a d) (λ k l. refl) (λ k j l b. words j k b l ∙ word_sym a j k)

@@ -3,72 +3,72 @@ use Rattle.std.proofs.Common.{◌≡◌, ℕ, ℤ, ◌+ℤ◌, ◌+◌, ◌-◌,
 use Rattle.std.specs.Int.{w128}
 use Rattle.std.proofs.lemmas.Int.{fits_signed_from_abs}
 use Rattle.whole_numbers.specs.Quotients.{up_over}
-use Rattle.whole_numbers.specs.Words.{Word, size, word_add, word_scale, word_shift, sum_words}
+use Rattle.whole_numbers.specs.Intervals.{Interval, size, interval_add, interval_scale, interval_shift, sum_intervals}
 use Rattle.whole_numbers.proofs.Sizes.{product_le, size_scale, size_sum_by}
 use Rattle.whole_numbers.proofs.Sums.{total_part, total_to_le, total_to-*, total_to-bound, le-total_to}
-use Rattle.whole_numbers.proofs.WordLaws.{sum_words_same}
+use Rattle.whole_numbers.proofs.IntervalLaws.{sum_intervals_same}
 use Rattle.sym_blocks.specs.Tables.{SymTable, word}
-use Rattle.chol_factor.specs.Squares.{at}
-use Rattle.sys_model.specs.Systems.{Table, left_word}
+use Rattle.whole_numbers.specs.Lists.{at}
+use Rattle.sys_model.specs.Systems.{Table, residual_interval}
 use Rattle.chol_guess.specs.Pilots.{PilotTable, pilot_word}
-use Rattle.enclosure_check.specs.Least.{IsLeast}
 use Rattle.enclosure_check.specs.Certificates.{AreErrors, LeftFitsAfter}
-use Rattle.enclosure_check.specs.ErrorParts.{IsVector, IsRowByWords, AreLeft, AreShifted, AreShiftedLeft, AreShiftedErrors, FitAfter, taken_word, part_word, shifted_error, word_at}
+use Rattle.enclosure_check.specs.ErrorParts.{IsVector, IsRowByWords, AreLeft, AreShifted, AreShiftedLeft, AreShiftedErrors, FitAfter, taken_interval, part_interval, shifted_error, word_at}
+use Rattle.stated_order.specs.First.{IsLeast}
 
 -- ---- sums of words
-ends_fit : (w : Word) → size w ≤ 2 ^ 126 → FitsSigned w128 w.lo × FitsSigned w128 w.hi
+ends_fit : (w : Interval) → size w ≤ 2 ^ 126 → FitsSigned w128 w.lo × FitsSigned w128 w.hi
 ends_fit w h = (fits_signed_from_abs w128 w.lo (omega arith), fits_signed_from_abs w128 w.hi (omega arith))
 
-sum_words_more : (k : ℕ) (f : ℕ → Word) → sum_words (k + 1) f ≡ word_add (sum_words k f) (f k)
-sum_words_more k f = rw add-one refl
+sum_intervals_more : (k : ℕ) (f : ℕ → Interval) → sum_intervals (k + 1) f ≡ interval_add (sum_intervals k f) (f k)
+sum_intervals_more k f = rw add-one refl
 
 -- a sum with one more word fits
-pub step_fits : (k : ℕ) (f : ℕ → Word) (w v : Word) → w ≡ sum_words k f → v ≡ f k → size (sum_words (k + 1) f) ≤ 2 ^ 126 → FitsSigned w128 (w.lo +ℤ v.lo) × FitsSigned w128 (w.hi +ℤ v.hi)
+pub step_fits : (k : ℕ) (f : ℕ → Interval) (w v : Interval) → w ≡ sum_intervals k f → v ≡ f k → size (sum_intervals (k + 1) f) ≤ 2 ^ 126 → FitsSigned w128 (w.lo +ℤ v.lo) × FitsSigned w128 (w.hi +ℤ v.hi)
 step_fits k f w v e d h =
-    let t : sum_words (k + 1) f ≡ word_add w v = sum_words_more k f ∙ sym (rw (e, d) refl) in
-    ends_fit (word_add w v) (omega (arith, h, ap (λ u. size u) t))
+    let t : sum_intervals (k + 1) f ≡ interval_add w v = sum_intervals_more k f ∙ sym (rw (e, d) refl) in
+    ends_fit (interval_add w v) (omega (arith, h, ap (λ u. size u) t))
 
 -- ---- what the vector takes of a row
 -- the words of a working table
-abbrev pub AreSmallWords : SymTable → Type 0
-AreSmallWords a = (i j : ℕ) → i < a.size → j < a.size → size (word a i j) ≤ 2 ^ 61
+abbrev pub AreSmallIntervals : SymTable → Type 0
+AreSmallIntervals a = (i j : ℕ) → i < a.size → j < a.size → size (word a i j) ≤ 2 ^ 61
 
 -- each product fits
-pub taken_small : (a : SymTable) (y : List ℤ) (i j : ℕ) → AreSmallWords a → IsVector a.size y → i < a.size → j < a.size → unsigned_abs (at y j) * size (word a i j) ≤ 2 ^ 126
+pub taken_small : (a : SymTable) (y : List ℤ) (i j : ℕ) → AreSmallIntervals a → IsVector a.size y → i < a.size → j < a.size → unsigned_abs (at y j) * size (word a i j) ≤ 2 ^ 126
 taken_small a y i j small v row column =
     let t = le-total_to a.size (λ k. unsigned_abs (at y k)) j column in
     omega (arith, product_le (unsigned_abs (at y j)) (2 ^ 64) (size (word a i j)) (2 ^ 61) (omega (arith, v.small)) (small i j row column))
 
 -- so does each part of their sum
-pub row_small : (a : SymTable) (y : List ℤ) (i m : ℕ) → AreSmallWords a → IsVector a.size y → i < a.size → m ≤ a.size → size (sum_words m (taken_word a y i)) ≤ 2 ^ 125
+pub row_small : (a : SymTable) (y : List ℤ) (i m : ℕ) → AreSmallIntervals a → IsVector a.size y → i < a.size → m ≤ a.size → size (sum_intervals m (taken_interval a y i)) ≤ 2 ^ 125
 row_small a y i m small v row most =
-    let s = size_sum_by m (taken_word a y i) in
-    let b = total_to_le m (λ k. size (taken_word a y i k)) (λ k. unsigned_abs (at y k) * 2 ^ 61) (λ k d. size_scale (at y k) (word a i k) (unsigned_abs (at y k)) (2 ^ 61) (omega arith) (small i k row (omega arith))) in
+    let s = size_sum_by m (taken_interval a y i) in
+    let b = total_to_le m (λ k. size (taken_interval a y i k)) (λ k. unsigned_abs (at y k) * 2 ^ 61) (λ k d. size_scale (at y k) (word a i k) (unsigned_abs (at y k)) (2 ^ 61) (omega arith) (small i k row (omega arith))) in
     let c = total_to-* m (λ k. unsigned_abs (at y k)) (2 ^ 61) in
     let e = total_part a.size (λ k. unsigned_abs (at y k)) m most in
     omega (arith, s, b, c, e, v.small)
 
 -- ---- what the pilot makes of the words
 -- each product fits
-pub part_small : (r : List ℤ) (ws : List Word) (k : ℕ) → IsRowByWords r ws → k < length ws → unsigned_abs (at r k) * size (word_at ws k) ≤ 2 ^ 126
+pub part_small : (r : List ℤ) (ws : List Interval) (k : ℕ) → IsRowByWords r ws → k < length ws → unsigned_abs (at r k) * size (word_at ws k) ≤ 2 ^ 126
 part_small r ws k s h =
     omega (arith, product_le (unsigned_abs (at r k)) (2 ^ 50) (size (word_at ws k)) (2 ^ 66) (s.row_small k (omega (arith, s.len))) (s.words_small k h))
 
 -- so does each part of their sum
-pub parts_small : (r : List ℤ) (ws : List Word) (m : ℕ) → IsRowByWords r ws → m ≤ length ws → size (sum_words m (part_word r ws)) ≤ 2 ^ 126
+pub parts_small : (r : List ℤ) (ws : List Interval) (m : ℕ) → IsRowByWords r ws → m ≤ length ws → size (sum_intervals m (part_interval r ws)) ≤ 2 ^ 126
 parts_small r ws m s most =
-    let t = size_sum_by m (part_word r ws) in
-    let b = total_to-bound m (λ k. size (part_word r ws k)) (2 ^ 50 * 2 ^ 66) (λ k d. size_scale (at r k) (word_at ws k) (2 ^ 50) (2 ^ 66) (s.row_small k (omega (arith, s.len))) (s.words_small k (omega arith))) in
+    let t = size_sum_by m (part_interval r ws) in
+    let b = total_to-bound m (λ k. size (part_interval r ws k)) (2 ^ 50 * 2 ^ 66) (λ k d. size_scale (at r k) (word_at ws k) (2 ^ 50) (2 ^ 66) (s.row_small k (omega (arith, s.len))) (s.words_small k (omega arith))) in
     omega (arith, t, b, s.few)
 
 -- ---- the error of a row
 -- what the code computes is the error
-pub row_error_is : (p : PilotTable) (r : List ℤ) (ws : List Word) (h i m t : ℕ) (b : Word) → length ws ≡ p.size → ((k : ℕ) → k < p.size → at r k ≡ pilot_word p i k)
-    → b ≡ sum_words (length ws) (part_word r ws) → m ≡ size b → t ≡ 2 ^ (p.g + 60 - h) → up_over m t ≡ shifted_error p ws h i
+pub row_error_is : (p : PilotTable) (r : List ℤ) (ws : List Interval) (h i m t : ℕ) (b : Interval) → length ws ≡ p.size → ((k : ℕ) → k < p.size → at r k ≡ pilot_word p i k)
+    → b ≡ sum_intervals (length ws) (part_interval r ws) → m ≡ size b → t ≡ 2 ^ (p.g + 60 - h) → up_over m t ≡ shifted_error p ws h i
 row_error_is p r ws h i m t b len row is em et =
-    let by_size : b ≡ sum_words p.size (part_word r ws) = is ∙ ap (λ n. sum_words n (part_word r ws)) len in
-    let same = by_size ∙ sum_words_same p.size (part_word r ws) (λ k. word_scale (pilot_word p i k) (word_at ws k)) (λ k l. ap (λ x. word_scale x (word_at ws k)) (row k l)) in
-    ap (λ x. up_over x t) (em ∙ ap (λ w. size w) same) ∙ ap (λ x. up_over (size (sum_words p.size (λ k. word_scale (pilot_word p i k) (word_at ws k)))) x) et
+    let by_size : b ≡ sum_intervals p.size (part_interval r ws) = is ∙ ap (λ n. sum_intervals n (part_interval r ws)) len in
+    let same = by_size ∙ sum_intervals_same p.size (part_interval r ws) (λ k. interval_scale (pilot_word p i k) (word_at ws k)) (λ k l. ap (λ x. interval_scale x (word_at ws k)) (row k l)) in
+    ap (λ x. up_over x t) (em ∙ ap (λ w. size w) same) ∙ ap (λ x. up_over (size (sum_intervals p.size (λ k. interval_scale (pilot_word p i k) (word_at ws k)))) x) et
 
 -- ---- the errors of all rows
 -- what is least of one kind is least of another that is the same
@@ -76,7 +76,7 @@ pub least_same : (P Q : ℕ → Type 0) (h : ℕ) → ((k : ℕ) → P k → Q k
 least_same P Q h to back l = record { here = to h l.here; before = λ k s q. l.before k s (back k q) }
 
 -- the pilot may be multiplied with the shifted words
-pub left_shifted : (n : ℕ) (t : Table) (y : ℕ → ℤ) (ws vs : List Word) (h : ℕ) → n ≤ 1000 → AreLeft n t y ws → IsLeast (FitAfter ws) h → AreShifted h ws vs → AreShiftedLeft n vs
+pub left_shifted : (n : ℕ) (t : Table) (y : ℕ → ℤ) (ws vs : List Interval) (h : ℕ) → n ≤ 1000 → AreLeft n t y ws → IsLeast (FitAfter ws) h → AreShifted h ws vs → AreShiftedLeft n vs
 left_shifted n t y ws vs h few left least shifted = record {
   len = omega (arith, left.len, shifted.len);
   few = few;
@@ -84,14 +84,14 @@ left_shifted n t y ws vs h few left least shifted = record {
 }
 
 -- what fits of the list fits of the definition, and the other way round
-fits_left : (n : ℕ) (t : Table) (y : ℕ → ℤ) (ws : List Word) → AreLeft n t y ws → (h : ℕ) → FitAfter ws h → LeftFitsAfter n t y h
-fits_left n t y ws left h fits i row = subst (λ w. size (word_shift h w) ≤ 2 ^ 66) (left.each i row) (fits i (omega (arith, left.len)))
+fits_left : (n : ℕ) (t : Table) (y : ℕ → ℤ) (ws : List Interval) → AreLeft n t y ws → (h : ℕ) → FitAfter ws h → LeftFitsAfter n t y h
+fits_left n t y ws left h fits i row = subst (λ w. size (interval_shift h w) ≤ 2 ^ 66) (left.each i row) (fits i (omega (arith, left.len)))
 
-fits_back : (n : ℕ) (t : Table) (y : ℕ → ℤ) (ws : List Word) → AreLeft n t y ws → (h : ℕ) → LeftFitsAfter n t y h → FitAfter ws h
-fits_back n t y ws left h fits k inside = let row : k < n = omega (arith, left.len) in subst (λ w. size (word_shift h w) ≤ 2 ^ 66) (sym (left.each k row)) (fits k row)
+fits_back : (n : ℕ) (t : Table) (y : ℕ → ℤ) (ws : List Interval) → AreLeft n t y ws → (h : ℕ) → LeftFitsAfter n t y h → FitAfter ws h
+fits_back n t y ws left h fits k inside = let row : k < n = omega (arith, left.len) in subst (λ w. size (interval_shift h w) ≤ 2 ^ 66) (sym (left.each k row)) (fits k row)
 
 -- the errors of the shifted words are those of the definition
-pub errors_are : (n : ℕ) (t : Table) (y : ℕ → ℤ) (p : PilotTable) (ws vs : List Word) (h : ℕ) → p.size ≡ n → h ≤ 60 → AreLeft n t y ws → IsLeast (FitAfter ws) h → AreShifted h ws vs
+pub errors_are : (n : ℕ) (t : Table) (y : ℕ → ℤ) (p : PilotTable) (ws vs : List Interval) (h : ℕ) → p.size ≡ n → h ≤ 60 → AreLeft n t y ws → IsLeast (FitAfter ws) h → AreShifted h ws vs
     → (errors : List ℕ) → AreShiftedErrors p vs h errors → AreErrors n t p y errors
 errors_are n t y p ws vs h size_is few left least shifted errors are = record {
   h = h;
@@ -99,9 +99,9 @@ errors_are n t y p ws vs h size_is few left least shifted errors are = record {
   shift = least_same (FitAfter ws) (LeftFitsAfter n t y) h (fits_left n t y ws left) (fits_back n t y ws left) least;
   len = omega (arith, are.len);
   each = λ i row.
-      let same = sum_words_same n (λ k. word_scale (pilot_word p i k) (word_at vs k)) (λ k. word_scale (pilot_word p i k) (word_shift h (left_word n t y k)))
-      (λ k l. ap (λ w. word_scale (pilot_word p i k) w) (shifted.each k (omega (arith, left.len)) ∙ ap (λ w. word_shift h w) (left.each k l))) in
+      let same = sum_intervals_same n (λ k. interval_scale (pilot_word p i k) (word_at vs k)) (λ k. interval_scale (pilot_word p i k) (interval_shift h (residual_interval n t y k)))
+      (λ k l. ap (λ w. interval_scale (pilot_word p i k) w) (shifted.each k (omega (arith, left.len)) ∙ ap (λ w. interval_shift h w) (left.each k l))) in
       are.each i (omega arith)
-      ∙ ap (λ m. up_over (size (sum_words m (λ k. word_scale (pilot_word p i k) (word_at vs k)))) (2 ^ (p.g + 60 - h))) size_is
+      ∙ ap (λ m. up_over (size (sum_intervals m (λ k. interval_scale (pilot_word p i k) (word_at vs k)))) (2 ^ (p.g + 60 - h))) size_is
       ∙ ap (λ w. up_over (size w) (2 ^ (p.g + 60 - h))) same;
 }

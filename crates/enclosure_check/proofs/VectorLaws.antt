@@ -5,26 +5,25 @@ use Rattle.std.proofs.lemmas.Int.{ints, fits_signed_from_abs, unsigned_abs-mul}
 use Rattle.std.proofs.lemmas.List.{get_or-replicate, length-replicate}
 use Rattle.whole_numbers.specs.Quotients.{floor_over}
 use Rattle.whole_numbers.specs.Sum.{sum_to}
-use Rattle.whole_numbers.specs.Words.{Word, size}
+use Rattle.whole_numbers.specs.Intervals.{Interval, size, midpoint}
 use Rattle.whole_numbers.proofs.Sizes.{floor_small, product_le, quotient_small}
 use Rattle.whole_numbers.proofs.Sums.{sum_to_same, abs-sum_to, abs-dot, total_part, total_to_le, total_to_same, total_to-*, total_to-bound, le-total_to}
-use Rattle.whole_numbers.proofs.WordLaws.{two_pow_above}
+use Rattle.whole_numbers.proofs.IntervalLaws.{two_pow_above}
 use Rattle.sym_blocks.specs.Tables.{SymTable, word}
 use Rattle.sys_model.specs.Systems.{Table}
-use Rattle.chol_factor.specs.Factor.{middle}
-use Rattle.chol_factor.specs.Squares.{at}
+use Rattle.whole_numbers.specs.Lists.{at}
 use Rattle.chol_guess.specs.Pilots.{PilotTable, pilot_word}
 use Rattle.enclosure_check.specs.Answers.{IsVectorRefused}
-use Rattle.enclosure_check.specs.Least.{IsLeast}
 use Rattle.enclosure_check.specs.ErrorParts.{IsVector}
-use Rattle.enclosure_check.specs.VectorParts.{taken_middle, part_number, change_at, moved_at, AreMiddlesLeft, AreFloors, IsRowByNumbers, AreShiftedNumbers, AreSmallNumbers, IsPassed, IsTurned, IsTurnRefused}
+use Rattle.enclosure_check.specs.VectorParts.{taken_midpoint, part_number, change_at, moved_at, AreMiddlesLeft, AreFloors, IsRowByNumbers, AreShiftedNumbers, AreSmallNumbers, IsPassed, IsTurned, IsTurnRefused}
 use Rattle.enclosure_check.specs.declared.VectorError.{VectorError}
 use Rattle.enclosure_check.specs.declared.VectorError.TheVariants.{Range, Memory}
-use Rattle.enclosure_check.specs.Vectors.{IsSmall, IsTurn, AfterTurns, IsStartVector, AllFitAfter, middle_left, moved}
-use Rattle.enclosure_check.proofs.ErrorLaws.{AreSmallWords, least_same}
+use Rattle.enclosure_check.specs.Vectors.{IsSmall, IsTurn, AfterTurns, IsStartVector, AllFitAfter, midpoint_residual, moved}
+use Rattle.enclosure_check.proofs.ErrorLaws.{AreSmallIntervals, least_same}
+use Rattle.stated_order.specs.First.{IsLeast}
 
 -- the middle is no greater than the word
-pub middle_small : (w : Word) (m : ℕ) → size w ≤ m → unsigned_abs (middle w) ≤ m
+pub middle_small : (w : Interval) (m : ℕ) → size w ≤ m → unsigned_abs (midpoint w) ≤ m
 middle_small w m h = floor_small (w.lo +ℤ w.hi) 2 m (omega arith) (omega (arith, ints))
 
 -- ---- sums
@@ -36,17 +35,17 @@ sum_step k f s p e d h =
 
 -- ---- what the vector takes of a row
 -- each product fits
-pub taken_small : (a : SymTable) (y : List ℤ) (i j : ℕ) → AreSmallWords a → IsVector a.size y → i < a.size → j < a.size → unsigned_abs (middle (word a i j)) * unsigned_abs (at y j) ≤ 2 ^ 126
+pub taken_small : (a : SymTable) (y : List ℤ) (i j : ℕ) → AreSmallIntervals a → IsVector a.size y → i < a.size → j < a.size → unsigned_abs (midpoint (word a i j)) * unsigned_abs (at y j) ≤ 2 ^ 126
 taken_small a y i j small v row column =
     let t = le-total_to a.size (λ k. unsigned_abs (at y k)) j column in
-    omega (arith, product_le (unsigned_abs (middle (word a i j))) (2 ^ 61) (unsigned_abs (at y j)) (2 ^ 64) (middle_small (word a i j) (2 ^ 61) (small i j row column)) (omega (arith, v.small)))
+    omega (arith, product_le (unsigned_abs (midpoint (word a i j))) (2 ^ 61) (unsigned_abs (at y j)) (2 ^ 64) (middle_small (word a i j) (2 ^ 61) (small i j row column)) (omega (arith, v.small)))
 
 -- so does each part of their sum
-pub row_small : (a : SymTable) (y : List ℤ) (i m : ℕ) → AreSmallWords a → IsVector a.size y → i < a.size → m ≤ a.size → unsigned_abs (sum_to m (taken_middle a y i)) ≤ 2 ^ 125
+pub row_small : (a : SymTable) (y : List ℤ) (i m : ℕ) → AreSmallIntervals a → IsVector a.size y → i < a.size → m ≤ a.size → unsigned_abs (sum_to m (taken_midpoint a y i)) ≤ 2 ^ 125
 row_small a y i m small v row most =
-    let s = abs-sum_to m (taken_middle a y i) in
-    let b = total_to_le m (λ k. unsigned_abs (taken_middle a y i k)) (λ k. unsigned_abs (at y k) * 2 ^ 61)
-    (λ k d. let p = product_le (unsigned_abs (at y k)) (unsigned_abs (at y k)) (unsigned_abs (middle (word a i k))) (2 ^ 61) (omega arith) (middle_small (word a i k) (2 ^ 61) (small i k row (omega arith))) in omega (arith, unsigned_abs-mul (middle (word a i k)) (at y k), p)) in
+    let s = abs-sum_to m (taken_midpoint a y i) in
+    let b = total_to_le m (λ k. unsigned_abs (taken_midpoint a y i k)) (λ k. unsigned_abs (at y k) * 2 ^ 61)
+    (λ k d. let p = product_le (unsigned_abs (at y k)) (unsigned_abs (at y k)) (unsigned_abs (midpoint (word a i k))) (2 ^ 61) (omega arith) (middle_small (word a i k) (2 ^ 61) (small i k row (omega arith))) in omega (arith, unsigned_abs-mul (midpoint (word a i k)) (at y k), p)) in
     let c = total_to-* m (λ k. unsigned_abs (at y k)) (2 ^ 61) in
     let e = total_part a.size (λ k. unsigned_abs (at y k)) m most in
     omega (arith, s, b, c, e, v.small)
@@ -99,24 +98,24 @@ made_numbers n t p y qs vs h few m = record {
 }
 
 -- a number made of the lists is that of the turn
-moved_same : (n : ℕ) (t : Table) (p : PilotTable) (y qs vs : List ℤ) (h : ℕ) → IsMade n t p y qs vs h → (i : ℕ) → moved_at p y vs h i ≡ moved n p (middle_left n t (at y)) h (at y) i
+moved_same : (n : ℕ) (t : Table) (p : PilotTable) (y qs vs : List ℤ) (h : ℕ) → IsMade n t p y qs vs h → (i : ℕ) → moved_at p y vs h i ≡ moved n p (midpoint_residual n t (at y)) h (at y) i
 moved_same n t p y qs vs h m i =
-    let same = sum_to_same n (λ k. pilot_word p i k *ℤ at vs k) (λ k. pilot_word p i k *ℤ floor_over (middle_left n t (at y) k) (2 ^ h))
+    let same = sum_to_same n (λ k. pilot_word p i k *ℤ at vs k) (λ k. pilot_word p i k *ℤ floor_over (midpoint_residual n t (at y) k) (2 ^ h))
     (λ k l. ap (λ x. pilot_word p i k *ℤ x) (m.floors.each k (omega (arith, m.left.len)) ∙ ap (λ x. floor_over x (2 ^ h)) (m.left.each k l))) in
     ap (λ s. at y i +ℤ floor_over (sum_to s (λ k. pilot_word p i k *ℤ at vs k)) (2 ^ (p.g + 60 - h))) m.size ∙ ap (λ x. at y i +ℤ floor_over x (2 ^ (p.g + 60 - h))) same
 
 -- what fits of the list fits of the definition, and the other way round
-fits_left : (n : ℕ) (t : Table) (y : ℕ → ℤ) (qs : List ℤ) → AreMiddlesLeft n t y qs → (h : ℕ) → AllFitAfter (length qs) (at qs) h → AllFitAfter n (middle_left n t y) h
+fits_left : (n : ℕ) (t : Table) (y : ℕ → ℤ) (qs : List ℤ) → AreMiddlesLeft n t y qs → (h : ℕ) → AllFitAfter (length qs) (at qs) h → AllFitAfter n (midpoint_residual n t y) h
 fits_left n t y qs left h fits i row = subst (λ q. unsigned_abs (floor_over q (2 ^ h)) ≤ 2 ^ 66) (left.each i row) (fits i (omega (arith, left.len)))
 
-fits_back : (n : ℕ) (t : Table) (y : ℕ → ℤ) (qs : List ℤ) → AreMiddlesLeft n t y qs → (h : ℕ) → AllFitAfter n (middle_left n t y) h → AllFitAfter (length qs) (at qs) h
+fits_back : (n : ℕ) (t : Table) (y : ℕ → ℤ) (qs : List ℤ) → AreMiddlesLeft n t y qs → (h : ℕ) → AllFitAfter n (midpoint_residual n t y) h → AllFitAfter (length qs) (at qs) h
 fits_back n t y qs left h fits k inside = let row : k < n = omega (arith, left.len) in subst (λ q. unsigned_abs (floor_over q (2 ^ h)) ≤ 2 ^ 66) (sym (left.each k row)) (fits k row)
 
 -- numbers that are those that the pilot gives are one turn away
 made_turn : (n : ℕ) (t : Table) (p : PilotTable) (y qs vs : List ℤ) (h : ℕ) → IsMade n t p y qs vs h → (z : ℕ → ℤ) → ((i : ℕ) → i < n → z i ≡ moved_at p y vs h i) → IsTurn n t p (at y) z
 made_turn n t p y qs vs h m z is = record {
   h = h;
-  shift = least_same (AllFitAfter (length qs) (at qs)) (AllFitAfter n (middle_left n t (at y))) h (fits_left n t (at y) qs m.left) (fits_back n t (at y) qs m.left) m.least;
+  shift = least_same (AllFitAfter (length qs) (at qs)) (AllFitAfter n (midpoint_residual n t (at y))) h (fits_left n t (at y) qs m.left) (fits_back n t (at y) qs m.left) m.least;
   rows = λ i row. is i row ∙ moved_same n t p y qs vs h m i;
 }
 

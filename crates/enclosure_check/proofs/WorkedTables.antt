@@ -2,15 +2,15 @@
 use Rattle.std.proofs.Common.{◌≡◌, ◌≤◌, ◌+◌, ◌-◌, ◌*◌, ◌/◌, ◌^◌, ℕ, ℤ, pos, [], ◌∷◌, refl, arith}
 use Rattle.std.proofs.Math.Dec.{lit≤}
 use Rattle.std.proofs.Math.Nat.{mul-le-mul_left, mul-le-mul_right, pow-le-pow_right, lt-div-mul-add}
-use Rattle.whole_numbers.specs.Words.{point_word}
-use Rattle.whole_numbers.proofs.WordLaws.{two_pow_above}
+use Rattle.whole_numbers.specs.Intervals.{point_interval}
+use Rattle.whole_numbers.proofs.IntervalLaws.{two_pow_above}
 use Rattle.sys_model.specs.Systems.{Table, radius}
 use Rattle.chol_guess.specs.Pilots.{PilotTable, pilot_word}
-use Rattle.enclosure_check.specs.Least.{IsLeast}
 use Rattle.enclosure_check.specs.Certificates.{LeftFitsAfter, parts_of, error_of}
+use Rattle.stated_order.specs.First.{IsLeast}
 
 abbrev table : ℤ → ℤ → Table
-table a d = record { entry = λ i j. point_word a; right = λ i. point_word d }
+table a d = record { entry = λ i j. point_interval a; right = λ i. point_interval d }
 
 abbrev pilot : ℤ → PilotTable
 pilot r = record { g = 0; size = 1; words = r ∷ [] }

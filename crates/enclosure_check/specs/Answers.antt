@@ -4,7 +4,7 @@ use Rattle.sys_model.specs.Systems.{Table}
 use Rattle.chol_factor.specs.Factor.{IsPivot}
 use Rattle.chol_guess.specs.Pilots.{PilotTable, IsPilot, IsCondition}
 use Rattle.enclosure_check.specs.Vectors.{IsStartVector, IsVectorRange}
-use Rattle.chol_factor.specs.Squares.{at}
+use Rattle.whole_numbers.specs.Lists.{at}
 use Rattle.enclosure_check.specs.Certificates.{IsCertified, IsResidual, IsDefect}
 use Rattle.enclosure_check.specs.declared.Enclosed.{Enclosed}
 use Rattle.enclosure_check.specs.declared.VectorError.{VectorError}

@@ -1,15 +1,16 @@
 -- The certificate of a pilot at a vector, and where it does not pass.
 -- Source: the residual test of Rump 2010; the scales and bounds are this program's own.
 use Rattle.std.specs.Prelude.{◌≡◌, ◌≤◌, ◌<◌, ◌^◌, ℕ, ℤ, List, length, slice_index_or}
-use Rattle.sys_model.specs.Systems.{Table, left_word, row_parts, row_error, radius}
-use Rattle.whole_numbers.specs.Words.{size, word_shift}
+use Rattle.sys_model.specs.Systems.{Table, residual_interval, row_parts, row_error, radius}
+use Rattle.whole_numbers.specs.Intervals.{size, interval_shift}
 use Rattle.chol_guess.specs.Pilots.{PilotTable, pilot_word}
-use Rattle.enclosure_check.specs.Least.{IsLeast, greatest_to}
 use Rattle.enclosure_check.specs.declared.Radius.{Radius}
+use Rattle.stated_order.specs.First.{IsLeast}
+use Rattle.whole_numbers.specs.Least.{greatest_to}
 
 -- each word that y leaves of the right side is at most 2^66 in size after an outward shift by h
 abbrev pub LeftFitsAfter : ℕ → Table → (ℕ → ℤ) → ℕ → Type 0
-LeftFitsAfter n t y h = (i : ℕ) → i < n → size (word_shift h (left_word n t y i)) ≤ 2 ^ 66
+LeftFitsAfter n t y h = (i : ℕ) → i < n → size (interval_shift h (residual_interval n t y i)) ≤ 2 ^ 66
 
 -- the defect of row i, in parts of 2^30: what the pilot times the table leaves of the unit table
 abbrev pub parts_of : ℕ → Table → PilotTable → ℕ → ℕ

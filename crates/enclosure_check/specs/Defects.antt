@@ -1,10 +1,10 @@
 -- The sums that the defects of a pilot are made of.
 use Rattle.std.specs.Prelude.{◌≡◌, ◌≤◌, ◌<◌, ◌+◌, ◌*◌, ◌^◌, ℕ, ℤ, pos, negsuc, ◌*ℤ◌, List, length, min}
 use Rattle.whole_numbers.specs.Sum.{unit}
-use Rattle.whole_numbers.specs.Words.{Word, point_word, word_sub, word_scale, sum_words, size}
+use Rattle.whole_numbers.specs.Intervals.{Interval, point_interval, interval_sub, interval_scale, sum_intervals, size}
 use Rattle.sys_model.specs.Systems.{Table}
-use Rattle.sym_blocks.specs.Tables.{SymTable, word, zero_word}
-use Rattle.chol_factor.specs.Squares.{at, AllAtMost}
+use Rattle.sym_blocks.specs.Tables.{SymTable, word, zero_interval}
+use Rattle.whole_numbers.specs.Lists.{at, AllAtMost}
 
 -- the product of r with up, or with down where r is below 0
 abbrev pub end_product : ℤ → ℤ → ℤ → ℤ
@@ -12,12 +12,12 @@ end_product (pos k) up down = pos k *ℤ up
 end_product (negsuc k) up down = negsuc k *ℤ down
 
 -- the word from number k of low to number k of high
-abbrev pub word_between : List ℤ → List ℤ → ℕ → Word
+abbrev pub word_between : List ℤ → List ℤ → ℕ → Interval
 word_between low high k = record { lo = at low k; hi = at high k }
 
 -- the sum of the first n products of the numbers r and the words f
-abbrev pub products_to : ℕ → (ℕ → ℤ) → (ℕ → Word) → Word
-products_to n r f = sum_words n (λ k. word_scale (r k) (f k))
+abbrev pub products_to : ℕ → (ℕ → ℤ) → (ℕ → Interval) → Interval
+products_to n r f = sum_intervals n (λ k. interval_scale (r k) (f k))
 
 -- the three rows have one length, and are in their bounds
 pub record AreRows (r low high : List ℤ) : Type 0 where
@@ -29,12 +29,12 @@ pub record AreRows (r low high : List ℤ) : Type 0 where
   pub high_ends : AllAtMost (2 ^ 61) high
 
 -- the size of what w leaves of the diagonal word at (i, j), and 2^(g + 60) where it is more
-abbrev pub clipped_left : ℕ → ℕ → ℕ → Word → ℕ
-clipped_left g i j w = min (size (word_sub (point_word (unit i (pos (2 ^ (g + 60))) j)) w)) (2 ^ (g + 60))
+abbrev pub clipped_left : ℕ → ℕ → ℕ → Interval → ℕ
+clipped_left g i j w = min (size (interval_sub (point_interval (unit i (pos (2 ^ (g + 60))) j)) w)) (2 ^ (g + 60))
 
 -- the table whose word in row k and column j has its ends in row j of low and high
 abbrev pub turned_table : ℕ → List ℤ → List ℤ → Table
-turned_table n low high = record { entry = λ k j. word_between low high (j * n + k); right = λ i. zero_word }
+turned_table n low high = record { entry = λ k j. word_between low high (j * n + k); right = λ i. zero_interval }
 
 -- low and high have the ends of the words of a, row by row
 abbrev pub HasWords : ℕ → SymTable → List ℤ → List ℤ → Type 0

@@ -1,4 +1,3 @@
-pub mod Least
 pub mod Certificates
 pub mod Answers
 pub mod Vectors

@@ -4,22 +4,22 @@ use Rattle.whole_numbers.specs.Quotients.{floor_over}
 use Rattle.whole_numbers.specs.Sum.{sum_to}
 use Rattle.sym_blocks.specs.Tables.{SymTable, word}
 use Rattle.sys_model.specs.Systems.{Table}
-use Rattle.chol_factor.specs.Factor.{middle}
-use Rattle.chol_factor.specs.Squares.{at, AllAtMost}
+use Rattle.whole_numbers.specs.Lists.{at, AllAtMost}
 use Rattle.chol_guess.specs.Pilots.{PilotTable, pilot_word}
 use Rattle.enclosure_check.specs.ErrorParts.{IsVector}
-use Rattle.enclosure_check.specs.Vectors.{IsSmall, IsTurn, middle_left}
+use Rattle.enclosure_check.specs.Vectors.{IsSmall, IsTurn, midpoint_residual}
 use Rattle.enclosure_check.specs.declared.VectorError.{VectorError}
 use Rattle.enclosure_check.specs.declared.VectorError.TheVariants.{Range, Memory}
+use Rattle.whole_numbers.specs.Intervals.{midpoint}
 
 -- the middle of the word (i, j) times number j of the vector
-abbrev pub taken_middle : SymTable → List ℤ → ℕ → ℕ → ℤ
-taken_middle a y i j = middle (word a i j) *ℤ at y j
+abbrev pub taken_midpoint : SymTable → List ℤ → ℕ → ℕ → ℤ
+taken_midpoint a y i j = midpoint (word a i j) *ℤ at y j
 
 -- the numbers are what y leaves of the right side, by the middles of the words
 pub record AreMiddlesLeft (n : ℕ) (t : Table) (y : ℕ → ℤ) (qs : List ℤ) : Type 0 where
   pub len : length qs ≡ n
-  pub each : (i : ℕ) → i < n → at qs i ≡ middle_left n t y i
+  pub each : (i : ℕ) → i < n → at qs i ≡ midpoint_residual n t y i
   pub small : AllAtMost (2 ^ 126) qs
 
 -- the numbers vs are the numbers qs over 2^h

@@ -4,13 +4,13 @@ use Rattle.std.specs.Prelude.{◌≡◌, ◌≤◌, ◌<◌, ◌+◌, ◌-◌, �
 use Rattle.whole_numbers.specs.Sum.{sum_to, total_to}
 use Rattle.whole_numbers.specs.Quotients.{floor_over}
 use Rattle.sys_model.specs.Systems.{Table}
-use Rattle.chol_factor.specs.Factor.{middle}
 use Rattle.chol_guess.specs.Pilots.{PilotTable, pilot_word}
-use Rattle.enclosure_check.specs.Least.{IsLeast}
+use Rattle.whole_numbers.specs.Intervals.{midpoint}
+use Rattle.stated_order.specs.First.{IsLeast}
 
 -- what y leaves of the right side in row i, by the middles of the words
-abbrev pub middle_left : ℕ → Table → (ℕ → ℤ) → ℕ → ℤ
-middle_left n t y i = middle (t.right i) -ℤ sum_to n (λ j. middle (t.entry i j) *ℤ y j)
+abbrev pub midpoint_residual : ℕ → Table → (ℕ → ℤ) → ℕ → ℤ
+midpoint_residual n t y i = midpoint (t.right i) -ℤ sum_to n (λ j. midpoint (t.entry i j) *ℤ y j)
 
 -- each of the numbers q over 2^h is at most 2^66 in size
 abbrev pub AllFitAfter : ℕ → (ℕ → ℤ) → ℕ → Type 0
@@ -23,8 +23,8 @@ moved n p q h y i = y i +ℤ floor_over (sum_to n (λ k. pilot_word p i k *ℤ f
 -- one turn leads from y to z
 pub record IsTurn (n : ℕ) (t : Table) (p : PilotTable) (y z : ℕ → ℤ) : Type 0 where
   pub h : ℕ
-  pub shift : IsLeast (AllFitAfter n (middle_left n t y)) h
-  pub rows : (i : ℕ) → i < n → z i ≡ moved n p (middle_left n t y) h y i
+  pub shift : IsLeast (AllFitAfter n (midpoint_residual n t y)) h
+  pub rows : (i : ℕ) → i < n → z i ≡ moved n p (midpoint_residual n t y) h y i
 
 -- the sizes of the first n numbers add up to at most 2^64
 abbrev pub IsSmall : ℕ → (ℕ → ℤ) → Type 0

@@ -3,7 +3,7 @@
 ghost use Rattle.std.specs.Prelude.{◌≡◌, ◌≤◌, ◌<◌, ◌^◌, ℕ, length, slice_index, slice_index_or, IfOk, IfErr, IfSome, IfNone};
 ghost use Rattle.std.specs.Vec.{vec_len};
 ghost use Rattle.sys_model.specs.Systems.{Encloses, rho};
-ghost use Rattle.chol_factor.specs.Squares.{at};
+ghost use Rattle.whole_numbers.specs.Lists.{at};
 ghost use Rattle.equil.specs.Tables.{table_of};
 ghost use Rattle.enclosure_check.specs.Answers.{IsCheckRefused};
 ghost use Rattle.enclosure_check.specs.CertificateLists.{NonePast, greatest_of, IsFirstPast, IsFirstGreatest, radius_from, HasRadii, IsDefectRefused};

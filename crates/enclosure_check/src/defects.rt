@@ -5,9 +5,9 @@ ghost use Rattle.std.specs.Int.{w128};
 ghost use Rattle.std.specs.Vec.{vec_len};
 ghost use Rattle.whole_numbers.specs.Quotients.{up_over};
 ghost use Rattle.whole_numbers.specs.Sum.{unit};
-ghost use Rattle.whole_numbers.specs.Words.{Word, point_word, word_add, word_sub, word_scale, size};
+ghost use Rattle.whole_numbers.specs.Intervals.{Interval, point_interval, interval_add, interval_sub, interval_scale, size};
 ghost use Rattle.sym_blocks.specs.Tables.{word};
-ghost use Rattle.chol_factor.specs.Squares.{at, AllAtMost};
+ghost use Rattle.whole_numbers.specs.Lists.{at, AllAtMost};
 ghost use Rattle.equil.specs.Tables.{table_of};
 ghost use Rattle.enclosure_check.specs.Certificates.{AreDefects, parts_of};
 ghost use Rattle.enclosure_check.specs.Defects.{end_product, word_between, products_to, clipped_left, turned_table, AreRows, HasWords};
@@ -25,7 +25,7 @@ struct Ends {
 }
 
 impl Model for Ends {
-    ghost Value = { Word };
+    ghost Value = { Interval };
 
     ghost view = { λ e. record { lo = e.lo; hi = e.hi } };
 
@@ -36,7 +36,7 @@ impl Ends {
     fn plus(self, other: Ends) -> Ends
         requires lo_fits { FitsSigned w128 (self.lo +ℤ other.lo) }
         requires hi_fits { FitsSigned w128 (self.hi +ℤ other.hi) }
-        ensures { result ≡ word_add self other }
+        ensures { result ≡ interval_add self other }
     {
         Ends {
             lo: self.lo + other.lo,
@@ -48,7 +48,7 @@ impl Ends {
     fn left_of(self, v: i128) -> u128
         requires lo_fits { FitsSigned w128 (v -ℤ self.hi) }
         requires hi_fits { FitsSigned w128 (v -ℤ self.lo) }
-        ensures { result ≡ size (word_sub (point_word v) self) }
+        ensures { result ≡ size (interval_sub (point_interval v) self) }
     {
         (v - self.hi)
             .unsigned_abs()
@@ -66,7 +66,7 @@ fn end_product(r: i64, up: i64, down: i64) -> i128
 
 /// The products of a number and the word from `low` to `high`.
 fn scaled(r: i64, low: i64, high: i64) -> Ends
-    ensures { result ≡ word_scale r (record { lo = low; hi = high }) }
+    ensures { result ≡ interval_scale r (record { lo = low; hi = high }) }
 {
     Ends {
         lo: end_product(r, low, high),
@@ -129,7 +129,7 @@ fn ends_at<const N: usize>(w: &Working<N>, j: usize, k: usize) -> (i64, i64)
 fn scaled_at<const N: usize>(w: &Working<N>, r: i64, k: usize, j: usize) -> Ends
     requires row { k < w.now.a.size }
     requires column { j < w.now.a.size }
-    ensures { result ≡ word_scale r (word w.now.a k j) }
+    ensures { result ≡ interval_scale r (word w.now.a k j) }
 {
     let (low, high) = ends_at(w, k, j);
     scaled(r, low, high)

@@ -1,14 +1,14 @@
 //! What the pilot makes of what a vector leaves of the right side.
 
 ghost use Rattle.std.specs.Prelude.{◌≡◌, ◌≤◌, ◌<◌, ◌^◌, ◌↔◌, ℕ, length, IfOk, IsTrue};
-ghost use Rattle.whole_numbers.specs.Words.{size, sum_words};
-ghost use Rattle.sys_model.specs.Systems.{left_word};
-ghost use Rattle.chol_factor.specs.Squares.{at};
+ghost use Rattle.whole_numbers.specs.Intervals.{size, sum_intervals};
+ghost use Rattle.sys_model.specs.Systems.{residual_interval};
+ghost use Rattle.whole_numbers.specs.Lists.{at};
 ghost use Rattle.equil.specs.Tables.{table_of};
-ghost use Rattle.enclosure_check.specs.Least.{IsLeast};
 ghost use Rattle.enclosure_check.specs.Certificates.{AreErrors};
-ghost use Rattle.enclosure_check.specs.ErrorParts.{IsVector, taken_word, AreLeft, FitAfter, AreShifted, IsRowByWords, part_word, word_at, AreShiftedLeft, shifted_error, AreShiftedErrors};
+ghost use Rattle.enclosure_check.specs.ErrorParts.{IsVector, taken_interval, AreLeft, FitAfter, AreShifted, IsRowByWords, part_interval, word_at, AreShiftedLeft, shifted_error, AreShiftedErrors};
 ghost use Rattle.enclosure_check.specs.Vectors.{IsSmall};
+ghost use Rattle.stated_order.specs.First.{IsLeast};
 
 use chol_guess::Pilot;
 use equil::Working;
@@ -27,11 +27,11 @@ pub fn word_at(words: &[Iv], k: usize) -> Iv
 }
 
 /// What number `j` of the vector takes of row `i`.
-fn taken_word<const N: usize>(w: &Working<N>, y: &[i128], i: usize, j: usize) -> Iv
+fn taken_interval<const N: usize>(w: &Working<N>, y: &[i128], i: usize, j: usize) -> Iv
     requires vector { IsVector w.now.a.size y.now }
     requires row { i < w.now.a.size }
     requires column { j < w.now.a.size }
-    ensures { result ≡ taken_word w.now.a y.now i j }
+    ensures { result ≡ taken_interval w.now.a y.now i j }
 {
     w.a.get(i, j).mul_small(y[j])
 }
@@ -40,28 +40,28 @@ fn taken_word<const N: usize>(w: &Working<N>, y: &[i128], i: usize, j: usize) ->
 fn taken<const N: usize>(w: &Working<N>, y: &[i128], i: usize) -> Iv
     requires vector { IsVector w.now.a.size y.now }
     requires row { i < w.now.a.size }
-    ensures value { result ≡ sum_words w.now.a.size (taken_word w.now.a y.now i) }
+    ensures value { result ≡ sum_intervals w.now.a.size (taken_interval w.now.a y.now i) }
     ensures bound { size result ≤ 2 ^ 125 }
 {
     let mut sum = Iv::point(0);
     for j in 0..w.a.size() {
-        sum = sum.add(&taken_word(w, y, i, j));
+        sum = sum.add(&taken_interval(w, y, i, j));
     }
     sum
 }
 
 /// What the vector leaves of the right side in row `i`.
-fn left_word<const N: usize>(w: &Working<N>, y: &[i128], i: usize) -> Iv
+fn residual_interval<const N: usize>(w: &Working<N>, y: &[i128], i: usize) -> Iv
     requires vector { IsVector w.now.a.size y.now }
     requires row { i < w.now.a.size }
-    ensures value { result ≡ left_word w.now.a.size (table_of w.now.a w.now.d.items) (at y.now) i }
+    ensures value { result ≡ residual_interval w.now.a.size (table_of w.now.a w.now.d.items) (at y.now) i }
     ensures bound { size result ≤ 2 ^ 126 }
 {
     word_at(&w.d, i).sub(&taken(w, y, i))
 }
 
 /// What the vector leaves of the right side, row by row.
-fn left_words<const N: usize>(
+fn residual_intervals<const N: usize>(
     alloc: Global,
     w: &Working<N>,
     y: &[i128],
@@ -71,7 +71,7 @@ fn left_words<const N: usize>(
 {
     let mut words = Vec::new(alloc);
     for i in 0..w.a.size() {
-        words.push(left_word(w, y, i))?;
+        words.push(residual_interval(w, y, i))?;
     }
     Ok(words)
 }
@@ -115,10 +115,10 @@ fn shifted_words(alloc: Global, words: &[Iv], h: u32) -> Result<Vec<Iv>, AllocEr
 }
 
 /// The product of number `k` of a row of the pilot and word `k`.
-fn part_word(row: &[i64], words: &[Iv], k: usize) -> Iv
+fn part_interval(row: &[i64], words: &[Iv], k: usize) -> Iv
     requires sizes { IsRowByWords row.now words.now }
     requires within { k < length words.now }
-    ensures { result ≡ part_word row.now words.now k }
+    ensures { result ≡ part_interval row.now words.now k }
 {
     word_at(words, k).mul_small(i128::from(row[k]))
 }
@@ -126,11 +126,11 @@ fn part_word(row: &[i64], words: &[Iv], k: usize) -> Iv
 /// What a row of the pilot makes of the words.
 fn row_by_words(row: &[i64], words: &[Iv]) -> Iv
     requires { IsRowByWords row.now words.now }
-    ensures { result ≡ sum_words (length words.now) (part_word row.now words.now) }
+    ensures { result ≡ sum_intervals (length words.now) (part_interval row.now words.now) }
 {
     let mut sum = Iv::point(0);
     for k in 0..words.len() {
-        sum = sum.add(&part_word(row, words, k));
+        sum = sum.add(&part_interval(row, words, k));
     }
     sum
 }
@@ -182,7 +182,7 @@ pub fn row_errors<const N: usize>(
     requires small { IsSmall w.now.a.size (at y.now) }
     ensures { IfOk result (λ v. AreErrors w.now.a.size (table_of w.now.a w.now.d.items) p.now (at y.now) v.items) }
 {
-    let words = left_words(alloc, w, y)?;
+    let words = residual_intervals(alloc, w, y)?;
     let h = least_shift(&words);
     let shifted = shifted_words(alloc, &words, h)?;
     errors_of(alloc, p, &shifted, h)

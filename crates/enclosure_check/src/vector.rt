@@ -3,14 +3,14 @@
 ghost use Rattle.std.specs.Prelude.{◌≡◌, ◌≤◌, ◌<◌, ◌+◌, ◌^◌, ◌↔◌, pos, length, replicate, unsigned_abs, IsTrue, IfOk, IfErr, MatchResult};
 ghost use Rattle.std.specs.Vec.{vec_len};
 ghost use Rattle.whole_numbers.specs.Sum.{sum_to};
-ghost use Rattle.chol_factor.specs.Squares.{at, AllAtMost};
+ghost use Rattle.whole_numbers.specs.Lists.{at, AllAtMost};
 ghost use Rattle.equil.specs.Tables.{table_of};
 ghost use Rattle.enclosure_check.specs.Answers.{IsVectorRefused};
 ghost use Rattle.enclosure_check.specs.ErrorParts.{IsVector};
-ghost use Rattle.enclosure_check.specs.Least.{IsLeast};
-ghost use Rattle.enclosure_check.specs.VectorParts.{taken_middle, AreMiddlesLeft, AreFloors, IsRowByNumbers, part_number, AreShiftedNumbers, change_at, moved_at, AreSmallNumbers, IsPassed, IsTurned, IsTurnRefused};
-ghost use Rattle.enclosure_check.specs.Vectors.{IsStartVector, AllFitAfter, middle_left};
+ghost use Rattle.enclosure_check.specs.VectorParts.{taken_midpoint, AreMiddlesLeft, AreFloors, IsRowByNumbers, part_number, AreShiftedNumbers, change_at, moved_at, AreSmallNumbers, IsPassed, IsTurned, IsTurnRefused};
+ghost use Rattle.enclosure_check.specs.Vectors.{IsStartVector, AllFitAfter, midpoint_residual};
 ghost use Rattle.enclosure_check.specs.declared.VectorError.TheVariants.{Memory};
+ghost use Rattle.stated_order.specs.First.{IsLeast};
 
 use crate::VectorError;
 use crate::errors::word_at;
@@ -45,11 +45,11 @@ impl From<AllocError> for VectorError {
 }
 
 /// What number `j` of the vector takes of row `i`, by the middle of the word.
-fn taken_middle<const N: usize>(w: &Working<N>, y: &[i128], i: usize, j: usize) -> i128
+fn taken_midpoint<const N: usize>(w: &Working<N>, y: &[i128], i: usize, j: usize) -> i128
     requires vector { IsVector w.now.a.size y.now }
     requires row { i < w.now.a.size }
     requires column { j < w.now.a.size }
-    ensures { result ≡ taken_middle w.now.a y.now i j }
+    ensures { result ≡ taken_midpoint w.now.a y.now i j }
 {
     product(w.a.get(i, j).mid(), y[j])
 }
@@ -58,28 +58,28 @@ fn taken_middle<const N: usize>(w: &Working<N>, y: &[i128], i: usize, j: usize) 
 fn taken<const N: usize>(w: &Working<N>, y: &[i128], i: usize) -> i128
     requires vector { IsVector w.now.a.size y.now }
     requires row { i < w.now.a.size }
-    ensures value { result ≡ sum_to w.now.a.size (taken_middle w.now.a y.now i) }
+    ensures value { result ≡ sum_to w.now.a.size (taken_midpoint w.now.a y.now i) }
     ensures bound { unsigned_abs result ≤ 2 ^ 125 }
 {
     let mut sum: i128 = 0;
     for j in 0..w.a.size() {
-        sum += taken_middle(w, y, i, j);
+        sum += taken_midpoint(w, y, i, j);
     }
     sum
 }
 
 /// What the vector leaves of the right side in row `i`, by the middles of the words.
-fn middle_left<const N: usize>(w: &Working<N>, y: &[i128], i: usize) -> i128
+fn midpoint_residual<const N: usize>(w: &Working<N>, y: &[i128], i: usize) -> i128
     requires vector { IsVector w.now.a.size y.now }
     requires row { i < w.now.a.size }
-    ensures value { result ≡ middle_left w.now.a.size (table_of w.now.a w.now.d.items) (at y.now) i }
+    ensures value { result ≡ midpoint_residual w.now.a.size (table_of w.now.a w.now.d.items) (at y.now) i }
     ensures bound { unsigned_abs result ≤ 2 ^ 126 }
 {
     word_at(&w.d, i).mid() - taken(w, y, i)
 }
 
 /// What the vector leaves of the right side, row by row.
-fn middles_left<const N: usize>(
+fn midpoint_residuals<const N: usize>(
     alloc: Global,
     w: &Working<N>,
     y: &[i128],
@@ -89,7 +89,7 @@ fn middles_left<const N: usize>(
 {
     let mut numbers = Vec::new(alloc);
     for i in 0..w.a.size() {
-        numbers.push(middle_left(w, y, i))?;
+        numbers.push(midpoint_residual(w, y, i))?;
     }
     Ok(numbers)
 }
@@ -215,7 +215,7 @@ fn turn<const N: usize>(
     requires vector { IsVector w.now.a.size y.now }
     ensures { MatchResult result (λ z. IsTurned w.now.a.size (table_of w.now.a w.now.d.items) p.now (at y.now) z.items) (IsTurnRefused w.now.a.size (table_of w.now.a w.now.d.items) p.now (at y.now)) }
 {
-    let numbers = middles_left(alloc, w, y)?;
+    let numbers = midpoint_residuals(alloc, w, y)?;
     let h = least_shift(&numbers);
     let shifted = floors(alloc, &numbers, h)?;
     moved(alloc, p, y, &shifted, h)

@@ -5,7 +5,7 @@ use Rattle.std.proofs.Math.Nat.{pow-le-pow_right, mul-le-mul_left, mul-le-mul_ri
 use Rattle.std.proofs.lemmas.Grind.{pow_more, div_ceil_times}
 use Rattle.std.proofs.lemmas.Int.{ints}
 use Rattle.whole_numbers.specs.Quotients.{up_over}
-use Rattle.whole_numbers.proofs.Cases.{neither_less}
+use Rattle.stated_order.proofs.FirstLaws.{neither_less}
 use Rattle.equil.specs.Exponents.{IsNearTop, IsExponent}
 
 hundred_le : (a b : ℕ) → a ≤ b → 100 ^ a ≤ 100 ^ b

@@ -4,10 +4,10 @@ use Rattle.std.proofs.Math.IntN.{◌-ℤ◌}
 use Rattle.std.proofs.lemmas.Int.{ints, unsigned_abs-mul}
 use Rattle.std.proofs.lemmas.Nat.{pow-add}
 use Rattle.std.proofs.Math.Nat.{mul-le-mul_right}
-use Rattle.whole_numbers.specs.Scaling.{word_scale10}
-use Rattle.whole_numbers.specs.Words.{Word, Holds}
+use Rattle.whole_numbers.specs.Scaling.{interval_scale10}
+use Rattle.whole_numbers.specs.Intervals.{Interval, Holds}
 use Rattle.whole_numbers.proofs.EqualFractions.{holds_times}
-use Rattle.whole_numbers.proofs.Powers.{ten_above}
+use Rattle.whole_numbers.proofs.Powers.{ten_pow_above}
 use Rattle.whole_numbers.proofs.Ring.{ring}
 use Rattle.whole_numbers.proofs.Scaled.{holds_raised, holds_lowered}
 use Rattle.whole_numbers.proofs.Sums.{sum_to_same, sum_to-*ℤ}
@@ -30,14 +30,14 @@ lowered_by q k h =
     let e : 10 ^ suc k * 10 ^ (22 - suc k) ≡ 10 ^ 22 = sym (pow-add 10 (suc k) (22 - suc k)) ∙ ap (λ m. 10 ^ m) whole in
     omega (arith, ap (λ z. q * z) e)
 
-pub holds_scaled : (k : ℤ) (w : Word) (x : ℤ) (q : ℕ) → negsuc 21 ≤ℤ k → Holds w x q → Holds (word_scale10 w k) (x *ℤ pos (ten_power (pos 22 +ℤ k))) (q * 10 ^ 22)
-holds_scaled (pos m) w x q h held = subst (λ y. Holds (word_scale10 w (pos m)) y (q * 10 ^ 22)) (raised_by x m) (holds_times (word_scale10 w (pos m)) (x *ℤ pos (10 ^ m)) q (10 ^ 22) (holds_raised m w x q held))
+pub holds_scaled : (k : ℤ) (w : Interval) (x : ℤ) (q : ℕ) → negsuc 21 ≤ℤ k → Holds w x q → Holds (interval_scale10 w k) (x *ℤ pos (ten_power (pos 22 +ℤ k))) (q * 10 ^ 22)
+holds_scaled (pos m) w x q h held = subst (λ y. Holds (interval_scale10 w (pos m)) y (q * 10 ^ 22)) (raised_by x m) (holds_times (interval_scale10 w (pos m)) (x *ℤ pos (10 ^ m)) q (10 ^ 22) (holds_raised m w x q held))
 holds_scaled (negsuc j) w x q h held =
     let few : suc j ≤ 22 = omega (arith, ints) in
     let power : 22 - suc j ≡ unsigned_abs (pos 22 +ℤ negsuc j) = omega (arith, ints) in
-    subst (λ p. Holds (word_scale10 w (negsuc j)) (x *ℤ pos (10 ^ p)) (q * 10 ^ 22)) power
-    (subst (λ d. Holds (word_scale10 w (negsuc j)) (x *ℤ pos (10 ^ (22 - suc j))) d) (lowered_by q j few)
-    (holds_times (word_scale10 w (negsuc j)) x (10 ^ suc j * q) (10 ^ (22 - suc j)) (holds_lowered j w x q held)))
+    subst (λ p. Holds (interval_scale10 w (negsuc j)) (x *ℤ pos (10 ^ p)) (q * 10 ^ 22)) power
+    (subst (λ d. Holds (interval_scale10 w (negsuc j)) (x *ℤ pos (10 ^ (22 - suc j))) d) (lowered_by q j few)
+    (holds_times (interval_scale10 w (negsuc j)) x (10 ^ suc j * q) (10 ^ (22 - suc j)) (holds_lowered j w x q held)))
 
 pub lies_scaled : (n : ℕ) (t w : Table) (e : ℕ → ℤ) (S : System) → ((i : ℕ) → i < n → IsInRange (e i)) → IsWorking n t w e → LiesIn n t S → LiesIn n w (scaled_system S e)
 lies_scaled n t w e S range work lies = record {
@@ -101,7 +101,7 @@ solves_plain n e S y range sol = record {
       (ten_powers (pos 11 -ℤ e j) (pos 11 -ℤ e i) (pos 22 +ℤ (neg_ℤ (e i) -ℤ e j)) (let b = range j column in omega (arith, ints)) (let a = range i row in omega (arith, ints)) (omega (arith, ints)))) in
       let whole = sym (sum_to-*ℤ n (pos U) (λ j. S.a i j *ℤ x j)) ∙ each in
       let power = ap pos (ten_powers (pos 11 -ℤ e i) (pos 23) (pos 22 +ℤ (pos 12 -ℤ e i)) (let a = range i row in omega (arith, ints)) (omega (arith, ints)) (omega (arith, ints))) in
-      vanishes U (residual n S (plain_numbers y e) i) (ten_above (unsigned_abs (pos 11 -ℤ e i)))
+      vanishes U (residual n S (plain_numbers y e) i) (ten_pow_above (unsigned_abs (pos 11 -ℤ e i)))
       (back_left (pos U) (row_by n S.a i x) (S.c i) y.s (pos R) (pos (10 ^ 23)) power ∙ ap (λ z. z -ℤ (S.c i *ℤ pos R) *ℤ pos y.s) whole ∙ sol.rows i row);
 }
 

@@ -2,9 +2,9 @@
 use Rattle.std.proofs.Common.{◌≡◌, ◌≤◌, ◌<◌, ◌^◌, ◌∙◌, inl, inr, ℕ, ℤ, ◌-ℤ◌, neg_ℤ, List, length, slice_index_or, sym, ap, subst, arith}
 use Rattle.std.proofs.Math.Decide.{dec_le}
 use Rattle.std.proofs.lemmas.Int.{ints}
-use Rattle.whole_numbers.specs.Words.{Word, size}
-use Rattle.whole_numbers.specs.Scaling.{word_scale10}
-use Rattle.sym_blocks.specs.Tables.{SymTable, word, zero_word}
+use Rattle.whole_numbers.specs.Intervals.{Interval, size}
+use Rattle.whole_numbers.specs.Scaling.{interval_scale10}
+use Rattle.sym_blocks.specs.Tables.{SymTable, word, zero_interval}
 use Rattle.sym_blocks.proofs.Rows.{word_sym}
 use Rattle.equil.specs.declared.EquilError.{EquilError}
 use Rattle.equil.specs.declared.EquilError.TheVariants.{Range, Memory}
@@ -16,20 +16,20 @@ range_weaker : (P Q : ℕ → ℕ → Type 0) → ((r c : ℕ) → P r c → Q r
 range_weaker P Q f (Range row col) h = f row col h
 range_weaker P Q f Memory h = h
 
-pub past_table : (t : SymTable) (ds : List Word) (es fs : List ℤ) → fs ≡ es → AreExponents t.size (word t) (exponent_of es) → (x : EquilError) → IfRange (IsFirstEntry t.size (word t) (exponent_of fs)) x → IfRange (IsFirstPast t.size (table_of t ds)) x
+pub past_table : (t : SymTable) (ds : List Interval) (es fs : List ℤ) → fs ≡ es → AreExponents t.size (word t) (exponent_of es) → (x : EquilError) → IfRange (IsFirstEntry t.size (word t) (exponent_of fs)) x → IfRange (IsFirstPast t.size (table_of t ds)) x
 past_table t ds es fs same are x h =
     range_weaker (IsFirstEntry t.size (word t) (exponent_of es)) (IsFirstPast t.size (table_of t ds)) (λ r c p. record { e = exponent_of es; exponents = are; first = inl p }) x (subst (λ l. IfRange (IsFirstEntry t.size (word t) (exponent_of l)) x) same h)
 
-pub past_right : (t a : SymTable) (ds : List Word) (es fs gs : List ℤ) → fs ≡ es → gs ≡ es → length ds ≡ t.size → AreExponents t.size (word t) (exponent_of es) → AreScaled t.size a (word t) (exponent_of fs) → (x : EquilError) → IfRange (λ r c. (r ≡ c) × IsFirstRight (length ds) (λ k. slice_index_or ds k zero_word) (exponent_of gs) r) x → IfRange (IsFirstPast t.size (table_of t ds)) x
+pub past_right : (t a : SymTable) (ds : List Interval) (es fs gs : List ℤ) → fs ≡ es → gs ≡ es → length ds ≡ t.size → AreExponents t.size (word t) (exponent_of es) → AreScaled t.size a (word t) (exponent_of fs) → (x : EquilError) → IfRange (λ r c. (r ≡ c) × IsFirstRight (length ds) (λ k. slice_index_or ds k zero_interval) (exponent_of gs) r) x → IfRange (IsFirstPast t.size (table_of t ds)) x
 past_right t a ds es fs gs same other len are scaled x h =
     let s = subst (λ l. AreScaled t.size a (word t) (exponent_of l)) same scaled in
-    range_weaker (λ r c. (r ≡ c) × IsFirstRight t.size (λ k. slice_index_or ds k zero_word) (exponent_of es) r) (IsFirstPast t.size (table_of t ds)) (λ r c p. record { e = exponent_of es; exponents = are; first = inr (p.0, s.fit, p.1) }) x
-    (subst (λ l. IfRange (λ r c. (r ≡ c) × IsFirstRight t.size (λ k. slice_index_or ds k zero_word) (exponent_of l) r) x) other (subst (λ n. IfRange (λ r c. (r ≡ c) × IsFirstRight n (λ k. slice_index_or ds k zero_word) (exponent_of gs) r) x) len h))
+    range_weaker (λ r c. (r ≡ c) × IsFirstRight t.size (λ k. slice_index_or ds k zero_interval) (exponent_of es) r) (IsFirstPast t.size (table_of t ds)) (λ r c p. record { e = exponent_of es; exponents = are; first = inr (p.0, s.fit, p.1) }) x
+    (subst (λ l. IfRange (λ r c. (r ≡ c) × IsFirstRight t.size (λ k. slice_index_or ds k zero_interval) (exponent_of l) r) x) other (subst (λ n. IfRange (λ r c. (r ≡ c) × IsFirstRight n (λ k. slice_index_or ds k zero_interval) (exponent_of gs) r) x) len h))
 
 entry_sym : (t : SymTable) (e : ℕ → ℤ) (i j : ℕ) → working_entry (word t) e i j ≡ working_entry (word t) e j i
 entry_sym t e i j =
     let k : neg_ℤ (e i) -ℤ e j ≡ neg_ℤ (e j) -ℤ e i = omega (arith, ints) in
-    ap (λ w. word_scale10 w (neg_ℤ (e i) -ℤ e j)) (word_sym t i j) ∙ ap (word_scale10 (word t j i)) k
+    ap (λ w. interval_scale10 w (neg_ℤ (e i) -ℤ e j)) (word_sym t i j) ∙ ap (interval_scale10 (word t j i)) k
 
 pub scaled_word : (n : ℕ) (t a : SymTable) (e : ℕ → ℤ) → AreScaled n a (word t) e → (i j : ℕ) → i < n → j < n → word a i j ≡ working_entry (word t) e i j
 scaled_word n t a e s i j row column = elim (dec_le j i) [
@@ -43,12 +43,12 @@ scaled_small n t a es fs same len s i j row column = elim (dec_le j i) [
   | no l ↦ subst (λ w. size w ≤ 2 ^ 61) (sym (word_sym a i j ∙ s.words j i (omega arith) (omega arith))) (s.fit j i (omega arith) (omega arith))
 ]
 
-pub right_small : (n m : ℕ) (ds : List Word) (d : ℕ → Word) (e : ℕ → ℤ) → n ≡ m → IsRightScaled n ds d e → (i : ℕ) → i < m → size (slice_index_or ds i zero_word) ≤ 10 ^ 37
+pub right_small : (n m : ℕ) (ds : List Interval) (d : ℕ → Interval) (e : ℕ → ℤ) → n ≡ m → IsRightScaled n ds d e → (i : ℕ) → i < m → size (slice_index_or ds i zero_interval) ≤ 10 ^ 37
 right_small n m ds d e len s i row = subst (λ w. size w ≤ 10 ^ 37) (sym (s.words i (omega arith))) (s.fit i (omega arith))
 
-pub all_working : (t a : SymTable) (rs ds : List Word) (es fs gs : List ℤ) → fs ≡ es → gs ≡ es → length rs ≡ t.size → AreExponents t.size (word t) (exponent_of es) → AreScaled t.size a (word t) (exponent_of fs) → IsRightScaled (length rs) ds (λ k. slice_index_or rs k zero_word) (exponent_of gs) → IsWorking t.size (table_of t rs) (table_of a ds) (exponent_of es)
+pub all_working : (t a : SymTable) (rs ds : List Interval) (es fs gs : List ℤ) → fs ≡ es → gs ≡ es → length rs ≡ t.size → AreExponents t.size (word t) (exponent_of es) → AreScaled t.size a (word t) (exponent_of fs) → IsRightScaled (length rs) ds (λ k. slice_index_or rs k zero_interval) (exponent_of gs) → IsWorking t.size (table_of t rs) (table_of a ds) (exponent_of es)
 all_working t a rs ds es fs gs same other len are scaled right = record {
   exponents = are;
   entries = λ i j row column. scaled_word t.size t a (exponent_of es) (subst (λ l. AreScaled t.size a (word t) (exponent_of l)) same scaled) i j row column;
-  rights = λ i row. subst (λ l. slice_index_or ds i zero_word ≡ working_right (λ k. slice_index_or rs k zero_word) (exponent_of l) i) other (right.words i (omega (arith, len)));
+  rights = λ i row. subst (λ l. slice_index_or ds i zero_interval ≡ working_right (λ k. slice_index_or rs k zero_interval) (exponent_of l) i) other (right.words i (omega (arith, len)));
 }

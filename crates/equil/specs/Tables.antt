@@ -1,29 +1,29 @@
 -- Working tables: a table and a right side scaled row by row and column by column.
 use Rattle.std.specs.Prelude.{◌≡◌, ◌≤◌, ◌<◌, ◌^◌, ◌⊎◌, ℕ, ℤ, pos, ◌-ℤ◌, neg_ℤ, List, slice_index_or}
-use Rattle.whole_numbers.specs.Scaling.{word_scale10}
-use Rattle.whole_numbers.specs.Words.{Word, size}
-use Rattle.sym_blocks.specs.Tables.{SymTable, word, zero_word}
+use Rattle.whole_numbers.specs.Scaling.{interval_scale10}
+use Rattle.whole_numbers.specs.Intervals.{Interval, size}
+use Rattle.sym_blocks.specs.Tables.{SymTable, word, zero_interval}
 use Rattle.sys_model.specs.Systems.{Table}
 use Rattle.equil.specs.Exponents.{IsExponent}
 
 -- the words of a symmetric table and of a right side
-abbrev pub table_of : SymTable → List Word → Table
-table_of a d = record { entry = word a; right = λ i. slice_index_or d i zero_word }
+abbrev pub table_of : SymTable → List Interval → Table
+table_of a d = record { entry = word a; right = λ i. slice_index_or d i zero_interval }
 
 -- the exponents of a list
 abbrev pub exponent_of : List ℤ → ℕ → ℤ
 exponent_of e i = slice_index_or e i (pos 0)
 
 -- the word (i, j) times 10^(-e_i - e_j), rounded outward
-abbrev pub working_entry : (ℕ → ℕ → Word) → (ℕ → ℤ) → ℕ → ℕ → Word
-working_entry t e i j = word_scale10 (t i j) (neg_ℤ (e i) -ℤ e j)
+abbrev pub working_entry : (ℕ → ℕ → Interval) → (ℕ → ℤ) → ℕ → ℕ → Interval
+working_entry t e i j = interval_scale10 (t i j) (neg_ℤ (e i) -ℤ e j)
 
 -- word i of the right side times 10^(12 - e_i), rounded outward
-abbrev pub working_right : (ℕ → Word) → (ℕ → ℤ) → ℕ → Word
-working_right d e i = word_scale10 (d i) (pos 12 -ℤ e i)
+abbrev pub working_right : (ℕ → Interval) → (ℕ → ℤ) → ℕ → Interval
+working_right d e i = interval_scale10 (d i) (pos 12 -ℤ e i)
 
 -- each e i is the exponent of the diagonal word i
-abbrev pub AreExponents : ℕ → (ℕ → ℕ → Word) → (ℕ → ℤ) → Type 0
+abbrev pub AreExponents : ℕ → (ℕ → ℕ → Interval) → (ℕ → ℤ) → Type 0
 AreExponents n t e = (i : ℕ) → i < n → IsExponent (t i i).hi (e i)
 
 -- w is the working table of t with n rows
@@ -33,32 +33,32 @@ pub record IsWorking (n : ℕ) (t w : Table) (e : ℕ → ℤ) : Type 0 where
   pub rights : (i : ℕ) → i < n → w.right i ≡ working_right t.right e i
 
 -- the working words are in their bounds
-abbrev pub EntryFits : (ℕ → ℕ → Word) → (ℕ → ℤ) → ℕ → ℕ → Type 0
+abbrev pub EntryFits : (ℕ → ℕ → Interval) → (ℕ → ℤ) → ℕ → ℕ → Type 0
 EntryFits t e i j = size (working_entry t e i j) ≤ 2 ^ 61
 
-abbrev pub RightFits : (ℕ → Word) → (ℕ → ℤ) → ℕ → Type 0
+abbrev pub RightFits : (ℕ → Interval) → (ℕ → ℤ) → ℕ → Type 0
 RightFits d e i = size (working_right d e i) ≤ 10 ^ 37
 
 -- the first word of row i past its bound is that of column j
-pub record IsFirstInRow (t : ℕ → ℕ → Word) (e : ℕ → ℤ) (i j : ℕ) : Type 0 where
+pub record IsFirstInRow (t : ℕ → ℕ → Interval) (e : ℕ → ℤ) (i j : ℕ) : Type 0 where
   pub lower : j ≤ i
   pub past : ¬ (EntryFits t e i j)
   pub left : (k : ℕ) → k < j → EntryFits t e i k
 
 -- the first word of the table past its bound, row by row up to the diagonal, is (row, col)
-pub record IsFirstEntry (n : ℕ) (t : ℕ → ℕ → Word) (e : ℕ → ℤ) (row col : ℕ) : Type 0 where
+pub record IsFirstEntry (n : ℕ) (t : ℕ → ℕ → Interval) (e : ℕ → ℤ) (row col : ℕ) : Type 0 where
   pub within : row < n
   pub before : (i j : ℕ) → i < row → j ≤ i → EntryFits t e i j
   pub here : IsFirstInRow t e row col
 
 -- the first word of the right side past its bound is that of row
-pub record IsFirstRight (n : ℕ) (d : ℕ → Word) (e : ℕ → ℤ) (row : ℕ) : Type 0 where
+pub record IsFirstRight (n : ℕ) (d : ℕ → Interval) (e : ℕ → ℤ) (row : ℕ) : Type 0 where
   pub within : row < n
   pub past : ¬ (RightFits d e row)
   pub before : (i : ℕ) → i < row → RightFits d e i
 
 -- each word of the table is in its bound
-abbrev pub EntriesFit : ℕ → (ℕ → ℕ → Word) → (ℕ → ℤ) → Type 0
+abbrev pub EntriesFit : ℕ → (ℕ → ℕ → Interval) → (ℕ → ℤ) → Type 0
 EntriesFit n t e = (i j : ℕ) → i < n → j ≤ i → EntryFits t e i j
 
 -- the first word past its bound is at (row, col): the table comes first, and then the right side, with row and col equal

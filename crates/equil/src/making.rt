@@ -2,8 +2,8 @@
 
 ghost use Rattle.std.specs.Prelude.{◌≡◌, ◌≤◌, ◌<◌, ◌^◌, ℕ, ℤ, length, slice_index_or, IfOk, IfErr};
 ghost use Rattle.std.specs.Vec.{vec_len};
-ghost use Rattle.whole_numbers.specs.Words.{Word, size};
-ghost use Rattle.sym_blocks.specs.Tables.{SymTable, word, zero_word};
+ghost use Rattle.whole_numbers.specs.Intervals.{Interval, size};
+ghost use Rattle.sym_blocks.specs.Tables.{SymTable, word, zero_interval};
 ghost use Rattle.equil.specs.Refusals.{IfRange};
 ghost use Rattle.equil.specs.Rows.{AllInRange};
 ghost use Rattle.equil.specs.Scaled.{CarriesSystems};

@@ -2,7 +2,7 @@
 
 ghost use Rattle.std.specs.Prelude.{◌≡◌, ◌≤◌, ◌<◌, ◌+◌, ◌*◌, ◌^◌, ℕ, ℤ, pos, negsuc, ◌-ℤ◌, neg_ℤ, ◌≤ℤ◌, List, length, slice_index_or, SomeIff, IfOk, IfErr, IfSome, IfNone};
 ghost use Rattle.std.specs.Vec.{vec_len};
-ghost use Rattle.sym_blocks.specs.Tables.{SymTable, word, zero_word};
+ghost use Rattle.sym_blocks.specs.Tables.{SymTable, word, zero_interval};
 ghost use Rattle.equil.specs.Exponents.{IsExponent, IsInRange};
 ghost use Rattle.equil.specs.Refusals.{IfRange};
 ghost use Rattle.equil.specs.Rows.{AllInRange, AreScaled, IsRowScaled, IsRightScaled, KeepsRows};
@@ -47,7 +47,7 @@ fn right_shift(e: &[i32], i: usize) -> i32
 
 fn right_at(right: &[Iv], i: usize) -> Iv
     requires { i < length right.now }
-    ensures { result ≡ slice_index_or right.now i zero_word }
+    ensures { result ≡ slice_index_or right.now i zero_interval }
 {
     right[i]
 }
@@ -134,7 +134,7 @@ fn right_scaled(right: &[Iv], e: &[i32], i: usize) -> Option<Iv>
     requires len { length e.now ≡ length right.now }
     requires range { AllInRange e.now }
     requires row { i < length right.now }
-    ensures { SomeIff result (RightFits (λ k. slice_index_or right.now k zero_word) (exponent_of e.now) i) (working_right (λ k. slice_index_or right.now k zero_word) (exponent_of e.now) i) }
+    ensures { SomeIff result (RightFits (λ k. slice_index_or right.now k zero_interval) (exponent_of e.now) i) (working_right (λ k. slice_index_or right.now k zero_interval) (exponent_of e.now) i) }
 {
     right_at(right, i).scale10_within(right_shift(e, i), LIMIT)
 }
@@ -144,8 +144,8 @@ pub fn scaled_right(alloc: Global, right: &[Iv], e: &[i32]) -> Result<Vec<Iv>, E
     requires len { length e.now ≡ length right.now }
     requires range { AllInRange e.now }
     ensures len { IfOk result (λ d. vec_len d ≡ length right.now) }
-    ensures scaled { IfOk result (λ d. IsRightScaled (length right.now) d.items (λ k. slice_index_or right.now k zero_word) (exponent_of e.now)) }
-    ensures past { IfErr result (IfRange (λ row col. (row ≡ col) × IsFirstRight (length right.now) (λ k. slice_index_or right.now k zero_word) (exponent_of e.now) row)) }
+    ensures scaled { IfOk result (λ d. IsRightScaled (length right.now) d.items (λ k. slice_index_or right.now k zero_interval) (exponent_of e.now)) }
+    ensures past { IfErr result (IfRange (λ row col. (row ≡ col) × IsFirstRight (length right.now) (λ k. slice_index_or right.now k zero_interval) (exponent_of e.now) row)) }
 {
     let mut d = Vec::new(alloc);
     for row in 0..right.len() {

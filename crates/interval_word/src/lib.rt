@@ -6,8 +6,8 @@
 ghost use Rattle.std.specs.Prelude.{◌≡◌, ℕ, ℤ, pos, negsuc, ◌+ℤ◌, ◌-ℤ◌, ◌*ℤ◌, neg_ℤ, ◌≤ℤ◌, ◌<ℤ◌, ◌≤◌, ◌<◌, ◌*◌, ◌^◌, FitsSigned, unsigned_abs, SomeIff, IsTrue, ◌↔◌, max};
 ghost use Rattle.std.specs.Int.{w128};
 ghost use Rattle.whole_numbers.specs.Quotients.{floor_over};
-ghost use Rattle.whole_numbers.specs.Scaling.{word_scale10};
-ghost use Rattle.whole_numbers.specs.Words.{Word, Within, point_word, word_add, word_sub, word_neg, word_scale, word_shift, word_mul, least_of, greatest_of, IsProductRange, size};
+ghost use Rattle.whole_numbers.specs.Scaling.{interval_scale10};
+ghost use Rattle.whole_numbers.specs.Intervals.{Interval, Within, point_interval, interval_add, interval_sub, interval_neg, interval_scale, interval_shift, interval_mul, least_of, greatest_of, IsProductRange, size};
 
 use std::marker::Model;
 use whole_numbers::{product, scale_ceil, scale_floor, shift_ceil, shift_floor};
@@ -20,7 +20,7 @@ pub struct Iv {
 }
 
 impl Model for Iv {
-    ghost Value = { Word };
+    ghost Value = { Interval };
 
     ghost view = { λ w. record { lo = w.lo; hi = w.hi } };
 
@@ -46,7 +46,7 @@ impl Iv {
 
     /// The interval of one number.
     pub fn point(v: i128) -> Iv
-        ensures { result ≡ point_word v }
+        ensures { result ≡ point_interval v }
     {
         Iv { lo: v, hi: v }
     }
@@ -71,7 +71,7 @@ impl Iv {
     pub fn add(&self, other: &Iv) -> Iv
         requires lo_fits { FitsSigned w128 (self.now.lo +ℤ other.now.lo) }
         requires hi_fits { FitsSigned w128 (self.now.hi +ℤ other.now.hi) }
-        ensures { result ≡ word_add self.now other.now }
+        ensures { result ≡ interval_add self.now other.now }
     {
         made(self.lo() + other.lo(), self.hi() + other.hi())
     }
@@ -80,7 +80,7 @@ impl Iv {
     pub fn sub(&self, other: &Iv) -> Iv
         requires lo_fits { FitsSigned w128 (self.now.lo -ℤ other.now.hi) }
         requires hi_fits { FitsSigned w128 (self.now.hi -ℤ other.now.lo) }
-        ensures { result ≡ word_sub self.now other.now }
+        ensures { result ≡ interval_sub self.now other.now }
     {
         made(self.lo() - other.hi(), self.hi() - other.lo())
     }
@@ -89,7 +89,7 @@ impl Iv {
     pub fn neg(&self) -> Iv
         requires lo_fits { FitsSigned w128 (neg_ℤ self.now.hi) }
         requires hi_fits { FitsSigned w128 (neg_ℤ self.now.lo) }
-        ensures { result ≡ word_neg self.now }
+        ensures { result ≡ interval_neg self.now }
     {
         made(-self.hi(), -self.lo())
     }
@@ -98,7 +98,7 @@ impl Iv {
     #[tactic(auto, using(crate::proofs::Fits::scale_rules))]
     pub fn mul_small(&self, k: i128) -> Iv
         requires { unsigned_abs k * size self.now ≤ 2 ^ 126 }
-        ensures { result ≡ word_scale k self.now }
+        ensures { result ≡ interval_scale k self.now }
     {
         let a = product(k, self.lo());
         let b = product(k, self.hi());
@@ -109,7 +109,7 @@ impl Iv {
     #[tactic(auto, using(crate::proofs::Fits::mul_rules))]
     pub fn mul(&self, other: &Iv) -> Iv
         requires { size self.now * size other.now ≤ 2 ^ 126 }
-        ensures value { result ≡ word_mul self.now other.now }
+        ensures value { result ≡ interval_mul self.now other.now }
         ensures exact { IsProductRange self.now other.now result }
     {
         let a = product(self.lo(), other.lo());
@@ -144,7 +144,7 @@ impl Iv {
     #[tactic(auto, using(crate::proofs::Fits::shift_rules))]
     pub fn shift_out(&self, h: u32) -> Iv
         requires { h ≤ 126 }
-        ensures { result ≡ word_shift h self.now }
+        ensures { result ≡ interval_shift h self.now }
     {
         made(shift_floor(self.lo(), h), shift_ceil(self.hi(), h))
     }
@@ -153,7 +153,7 @@ impl Iv {
     /// passes 10^37 in size.
     #[tactic(auto, using(crate::proofs::Fits::scale10_rules))]
     pub fn scale10(&self, k: i32) -> Option<Iv>
-        ensures { SomeIff result (size (word_scale10 self.now k) ≤ 10 ^ 37) (word_scale10 self.now k) }
+        ensures { SomeIff result (size (interval_scale10 self.now k) ≤ 10 ^ 37) (interval_scale10 self.now k) }
     {
         let lo = scale_floor(self.lo(), k)?;
         let hi = scale_ceil(self.hi(), k)?;
@@ -164,7 +164,7 @@ impl Iv {
     /// size.
     pub fn scale10_within(&self, k: i32, limit: u128) -> Option<Iv>
         requires { limit ≤ 10 ^ 37 }
-        ensures { SomeIff result (size (word_scale10 self.now k) ≤ limit) (word_scale10 self.now k) }
+        ensures { SomeIff result (size (interval_scale10 self.now k) ≤ limit) (interval_scale10 self.now k) }
     {
         let scaled = self.scale10(k)?;
         if scaled.mag() <= limit {

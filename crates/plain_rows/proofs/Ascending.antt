@@ -2,7 +2,7 @@
 use Rattle.std.proofs.Common.{◌≡◌, sym, ◌∙◌, ap, subst, ℕ, zero, suc, ◌-◌, ◌<◌, ◌∷◌, List, [], length, get_or, add-one, arith}
 use Rattle.std.specs.List.{AllAdjacentBelow}
 use Rattle.std.proofs.lemmas.List.{get_or_read}
-use Rattle.plain_rows.specs.Plain.{Ascends}
+use Rattle.stated_order.specs.Lists.{Ascends}
 
 module _ {A : Type 0} (B : A → A → Type 0) where
   ascends_at : (xs : List A) (k : ℕ) (d : A) → Ascends B xs → suc k < length xs → B (get_or xs k d) (get_or xs (suc k) d)

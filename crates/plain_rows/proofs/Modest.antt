@@ -3,9 +3,9 @@ use Rattle.std.proofs.Common.{◌≡◌, ℕ, suc, ℤ, pos, negsuc, ◌+ℤ◌,
 use Rattle.std.proofs.lemmas.Int.{ints}
 use Rattle.whole_numbers.specs.Quotients.{floor_over, ceil_over}
 use Rattle.whole_numbers.specs.Scaling.{floor_scaled, ceil_scaled}
-use Rattle.whole_numbers.proofs.Powers.{ten_above}
+use Rattle.whole_numbers.proofs.Powers.{ten_pow_above}
 use Rattle.whole_numbers.proofs.Ring.{+ℤ-*ℤ, neg-*ℤ, mul_mono_pos, less_from_product}
-use Rattle.whole_numbers.proofs.WordLaws.{floor_over_le, lt-floor_over, le-ceil_over}
+use Rattle.whole_numbers.proofs.IntervalLaws.{floor_over_le, lt-floor_over, le-ceil_over}
 use Rattle.whole_numbers.proofs.Scaled.{floor_scaled_le_ceil}
 use Rattle.decimal_e.specs.Decimals.{Decimal}
 use Rattle.decimal_e.specs.Fractions.{IsAtMost}
@@ -37,11 +37,11 @@ quotient_small most z m some h =
 -- ---- of a decimal
 by_exp : (most : ℕ) (m e : ℤ) → IsAtMost most (record { mant = m; exp = e }) → IsWithin most (floor_scaled m e) (ceil_scaled m e)
 by_exp most m (pos k) h = record { low_end = omega (arith, ints, h); high_end = omega (arith, ints, h) }
-by_exp most m (negsuc k) h = quotient_within most m (10 ^ suc k) (ten_above (suc k)) (omega (arith, ints, h))
+by_exp most m (negsuc k) h = quotient_within most m (10 ^ suc k) (ten_pow_above (suc k)) (omega (arith, ints, h))
 
 small_by_exp : (most : ℕ) (m e : ℤ) → IsWithin most (floor_scaled m e) (ceil_scaled m e) → IsAtMost most (record { mant = m; exp = e })
 small_by_exp most m (pos k) h = omega (arith, ints, h.low_end, h.high_end)
-small_by_exp most m (negsuc k) h = let s = quotient_small most m (10 ^ suc k) (ten_above (suc k)) h in omega (arith, ints, s)
+small_by_exp most m (negsuc k) h = let s = quotient_small most m (10 ^ suc k) (ten_pow_above (suc k)) h in omega (arith, ints, s)
 
 pub moved : (most : ℕ) (a b x y : ℤ) → a ≡ x → b ≡ y → IsWithin most a b → IsWithin most x y
 moved most a b x y e f h = rw (← e, ← f) h

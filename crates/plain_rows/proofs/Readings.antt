@@ -4,7 +4,7 @@ use Rattle.std.proofs.lemmas.List.{length-map}
 use Rattle.std.proofs.lemmas.List.Elements.{All-nil, All-cons, All-head, All-tail}
 use Rattle.decimal_e.specs.Decimals.{Decimal}
 use Rattle.decimal_e.specs.Fractions.{IsAtMost}
-use Rattle.plain_rows.specs.Plain.{IsPlainForm, PlainFile, RowText, ElementText, IsRowOf, IsElementOf, AreEach, apriori_lines, vector_lines, element_lines, row_text, six_columns}
+use Rattle.plain_rows.specs.Plain.{IsPlainForm, PlainFile, RowText, ElementText, IsRowOf, IsElementOf, apriori_lines, vector_lines, element_lines, row_text, six_columns}
 use Rattle.plain_rows.specs.Cuts.{IsEntry}
 use Rattle.plain_rows.specs.Lines.{AreLines}
 use Rattle.plain_rows.specs.Blocks.{IsRows, IsMatrix, IsElementLine, apriori_of, vector_of, apriori_line_end, vector_line_end, apriori_end, vector_end, matrix_end}
@@ -14,6 +14,7 @@ use Rattle.plain_rows.specs.declared.Element.{Element}
 use Rattle.plain_rows.specs.declared.cut.Entry.{Entry}
 use Rattle.plain_rows.proofs.BlockLaws.{one_blocks, one_joined, joined_as}
 use Rattle.plain_rows.proofs.MatrixLaws.{one_matrix}
+use Rattle.stated_order.specs.Lists.{AreEach}
 
 abbrev IsModest : Row → Type 0
 IsModest row = IsAtMost (10 ^ 12) row.apriori

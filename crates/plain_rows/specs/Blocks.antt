@@ -1,12 +1,13 @@
 -- The blocks of a text in the plain form, and what follows each.
 use Rattle.std.specs.Prelude.{◌≡◌, ◌++◌, ◌≤◌, ◌<◌, ◌^◌, ℕ, suc, List, length, map, All, codes}
 use Rattle.decimal_e.specs.Fractions.{IsAtMost}
-use Rattle.plain_rows.specs.Plain.{IsField, IsNameBefore, IsPairBefore, Ascends, six_columns}
+use Rattle.plain_rows.specs.Plain.{IsField, IsNameBefore, IsPairBefore, six_columns}
 use Rattle.plain_rows.specs.Cuts.{IsHeader, IsEntry}
 use Rattle.plain_rows.specs.Lines.{AreLines}
 use Rattle.plain_rows.specs.declared.Row.{Row}
 use Rattle.plain_rows.specs.declared.Element.{Element}
 use Rattle.plain_rows.specs.declared.cut.Entry.{Entry}
+use Rattle.stated_order.specs.Lists.{Ascends}
 
 -- what stands behind the value of a row in its line
 abbrev pub apriori_line_end : List ℕ

@@ -7,6 +7,7 @@ use Rattle.std.specs.Cmp.Lexicographic.{slice_cmp}
 use Rattle.std.specs.Fmt.{decimal}
 use Rattle.std.specs.Ordering.{nat_cmp}
 use Rattle.std.specs.declared.cmp.Ordering.TheVariants.{Less}
+use Rattle.stated_order.specs.Lists.{AreEach, Ascends}
 use Rattle.decimal_e.specs.Decimals.{Decimal}
 use Rattle.decimal_e.specs.Fractions.{IsAtMost}
 use Rattle.decimal_e.specs.Answers.{IsAnswer}
@@ -103,19 +104,6 @@ pub record IsElementOf (n : ℕ) (text : ElementText) (e : Element) : Type 0 whe
   pub within : text.row < n
   pub lower : text.col ≤ text.row
   pub value : IsField text.value e.value
-
--- two lists are related member by member
-abbrev pub AreEach : {A B : Type 0} → (A → B → Type 0) → List A → List B → Type 0
-AreEach R [] [] = ⊤
-AreEach R (x ∷ xs) (y ∷ ys) = R x y × AreEach R xs ys
-AreEach R [] (y ∷ ys) = ⊥
-AreEach R (x ∷ xs) [] = ⊥
-
--- each member is before the next
-abbrev pub Ascends : {A : Type 0} → (A → A → Type 0) → List A → Type 0
-Ascends B [] = ⊤
-Ascends B (a ∷ []) = ⊤
-Ascends B (a ∷ b ∷ rest) = B a b × Ascends B (b ∷ rest)
 
 -- columns 8 to 18 of one row are less than those of another, by bytes: the axis first, then the code
 abbrev pub IsNameBefore : Row → Row → Type 0

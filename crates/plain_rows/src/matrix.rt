@@ -1,9 +1,10 @@
 // The matrix of a text in the plain form.
 
 ghost use Rattle.std.specs.Prelude.{◌≡◌, ◌≤◌, ◌<◌, ◌↔◌, ℕ, List, IsTrue, IfOk, MatchOption};
-ghost use Rattle.plain_rows.specs.Plain.{IsPairBefore, Ascends};
+ghost use Rattle.plain_rows.specs.Plain.{IsPairBefore};
 ghost use Rattle.plain_rows.specs.Blocks.{IsPair, IsLastField, IsElementLine, IsMatrix};
 ghost use Rattle.plain_rows.specs.Lines.{IsRun};
+ghost use Rattle.stated_order.specs.Lists.{Ascends};
 
 use crate::Element;
 use crate::columns::place_of;

@@ -1,10 +1,11 @@
 // The rows of a text in the plain form.
 
 ghost use Rattle.std.specs.Prelude.{◌≡◌, ◌++◌, ◌↔◌, ℕ, List, IsTrue, IfOk, MatchOption, slice_index, codes};
-ghost use Rattle.plain_rows.specs.Plain.{IsNameBefore, Ascends};
+ghost use Rattle.plain_rows.specs.Plain.{IsNameBefore};
 ghost use Rattle.plain_rows.specs.Blocks.{IsJoined, AreJoined, IsBlocks, IsRows};
 ghost use Rattle.plain_rows.specs.Cuts.{IsHeader, IsEntry};
 ghost use Rattle.plain_rows.specs.Lines.{AreLines, IsRun};
+ghost use Rattle.stated_order.specs.Lists.{Ascends};
 
 use crate::Row;
 use crate::cut::{Entry, after, after_header, entry_of};

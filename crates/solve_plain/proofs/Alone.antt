@@ -1,9 +1,10 @@
 -- The rules give one answer for each file: one list of numbers or one refusal.
-use Rattle.std.proofs.Common.{◌≡◌, inl, inr, ℕ, ℤ, refl, subst}
+use Rattle.std.proofs.Common.{◌≡◌, inl, inr, ℕ, ℤ, refl, subst, ap, Result, Ok, Err}
 use Rattle.sys_model.specs.Systems.{Table}
-use Rattle.chol_factor.specs.Squares.{at}
+use Rattle.whole_numbers.specs.Lists.{at}
 use Rattle.plain_rows.specs.Plain.{PlainFile}
-use Rattle.solve_plain.specs.Solving.{Numbers, HasEnclosure, IsSolved, IsUnprintable, IsRefusal}
+use Rattle.stated_order.specs.Steps.{IsOne}
+use Rattle.solve_plain.specs.Solving.{Numbers, HasEnclosure, IsSolved, IsUnprintable, IsRefusal, IsAnswer}
 use Rattle.enclosure_check.specs.declared.Enclosed.{Enclosed}
 use Rattle.solve_plain.specs.declared.SolveError.{SolveError}
 use Rattle.solve_plain.specs.declared.SolveError.TheVariants.{Words, Range, Pivot, Condition, Residual, Defect, Memory}
@@ -57,3 +58,10 @@ one_refusal p r q a b = let e : refused r ≡ refused q = one_end p (refused r) 
 
 pub not_both : (p : PlainFile) (s : Numbers) (r : SolveError) → IsSolved p s → IsRefusal p r → ⊥
 not_both p s r a b = let e : given s ≡ refused r = one_end p (given s) (refused r) (solved_ends p s a) (refusal_ends p r b) in cc
+
+-- so the answer is one
+pub answer_is_one : (p : PlainFile) → IsOne (IsAnswer p)
+answer_is_one p (Ok s) (Ok u) a b = ap Ok (one_solution p s u a b)
+answer_is_one p (Ok s) (Err r) a b = absurd (not_both p s r a b)
+answer_is_one p (Err r) (Ok s) a b = absurd (not_both p s r b a)
+answer_is_one p (Err r) (Err q) a b = ap Err (one_refusal p r q a b)

@@ -1,7 +1,7 @@
 -- The first place of a lower triangle, and then of a list, where a property fails: there is one, and none where it fails
 -- nowhere.
 use Rattle.std.proofs.Common.{◌≡◌, ◌≤◌, ◌<◌, ◌⊎◌, inl, inr, ◌∙◌, ℕ, sym, subst}
-use Rattle.whole_numbers.proofs.Cases.{neither_less}
+use Rattle.stated_order.proofs.FirstLaws.{neither_less}
 
 -- the first place of the triangle where P fails, row by row up to the diagonal
 pub record IsFirstLower (n : ℕ) (P : ℕ → ℕ → Type 0) (row col : ℕ) : Type 0 where

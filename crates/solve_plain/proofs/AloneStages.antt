@@ -1,10 +1,10 @@
 -- The rules from a file to its numbers or its refusal, stage by stage, and that each stage has one end.
 use Rattle.std.proofs.Common.{◌≡◌, ◌⊎◌, inl, inr, ◌∙◌, ℕ, ℤ, List, length, sym, ap, slice_index_or}
 use Rattle.sys_model.specs.Systems.{Table}
-use Rattle.chol_factor.specs.Factor.{middle, IsPivot}
+use Rattle.chol_factor.specs.Factor.{IsPivot}
 use Rattle.chol_factor.proofs.Alone.{pivot_alone}
 use Rattle.chol_guess.specs.Pilots.{PilotTable, IsPilot, IsCondition}
-use Rattle.chol_guess.proofs.Alone.{SameBelow, pilot_alone, pilot_words_alone, no_pivot, no_condition, condition_alone}
+use Rattle.chol_guess.proofs.Alone.{pilot_alone, pilot_words_alone, no_pivot, no_condition, condition_alone}
 use Rattle.chol_guess.proofs.AlonePilots.{SameSquare, pilot_carries, pivot_carries, condition_carries, condition_no_pivot}
 use Rattle.enclosure_check.specs.Vectors.{IsStartVector, IsVectorRange}
 use Rattle.enclosure_check.specs.Certificates.{IsCertified, IsResidual, IsDefect}
@@ -19,11 +19,13 @@ use Rattle.bounds_report.specs.declared.numbers.Printed.{Printed}
 use Rattle.bounds_report.proofs.AlonePrinted.{SameSizes, flipped_sizes, printed_alone, printed_no_refusal, print_refusal_alone}
 use Rattle.plain_rows.specs.Plain.{PlainFile}
 use Rattle.solve_plain.specs.Files.{file_words, apriori_of, AreModest}
-use Rattle.solve_plain.specs.Solving.{Numbers, HasWorking, middles_of}
+use Rattle.solve_plain.specs.Solving.{Numbers, HasWorking, midpoints_of}
 use Rattle.solve_plain.specs.declared.SolveError.{SolveError}
 use Rattle.solve_plain.specs.declared.SolveError.TheVariants.{Words, Range, Pivot, Condition, Residual, Defect}
 use Rattle.solve_plain.proofs.AloneSteps.{Says, SaysBoth, Step, Apart, Agree, says_agree, says_both_agree, either_agree, either_apart, step_agree}
 use Rattle.solve_plain.proofs.AloneWorking.{IsFirstImmodest, immodest_alone, modest_no_immodest, exponents_alone, working_alone, past_alone, working_no_past}
+use Rattle.whole_numbers.specs.Intervals.{midpoint}
+use Rattle.whole_numbers.specs.Lists.{SameBelow}
 
 -- the numbers of a report, or a refusal
 abbrev pub End : Type 0
@@ -109,18 +111,18 @@ started_ends p t u e f q r table same_e pilot =
 -- ---- the pilot
 abbrev pub EndsPiloted : PlainFile → Table → (ℕ → ℤ) → End → Type 0
 EndsPiloted p t e =
-    Step (λ o. Says (λ row. refused (Pivot row)) (IsPivot (length p.rows) (middles_of t)) o ⊎ Says (λ col. refused (Condition col)) (IsCondition (length p.rows) (middles_of t)) o)
-    (IsPilot (length p.rows) (middles_of t))
+    Step (λ o. Says (λ row. refused (Pivot row)) (IsPivot (length p.rows) (midpoints_of t)) o ⊎ Says (λ col. refused (Condition col)) (IsCondition (length p.rows) (midpoints_of t)) o)
+    (IsPilot (length p.rows) (midpoints_of t))
     (EndsStarted p t e)
 
-middles_same : (n : ℕ) (t u : Table) → SameTable n t u → SameSquare n (middles_of t) (middles_of u)
-middles_same n t u table i k row column = ap middle (table.entries i k row column)
+middles_same : (n : ℕ) (t u : Table) → SameTable n t u → SameSquare n (midpoints_of t) (midpoints_of u)
+middles_same n t u table i k row column = ap midpoint (table.entries i k row column)
 
 piloted_ends : (p : PlainFile) (t u : Table) (e f : ℕ → ℤ) → SameTable (length p.rows) t u → SameBelow (length p.rows) e f → Agree (EndsPiloted p t e) (EndsPiloted p u f)
 piloted_ends p t u e f table same_e =
     let n = length p.rows in
-    let m = middles_of t in
-    let v = middles_of u in
+    let m = midpoints_of t in
+    let v = midpoints_of u in
     let same = middles_same n t u table in
     let back = middles_same n u t (flipped_table n t u table) in
     step_agree _ _ _ _ _ _

@@ -2,17 +2,17 @@
 -- working word past its bound.
 use Rattle.std.proofs.Common.{◌≡◌, ◌≤◌, ◌<◌, ◌^◌, ◌⊎◌, inl, inr, ◌∙◌, ℕ, ℤ, pos, neg_ℤ, length, arith, sym, ap, subst}
 use Rattle.std.proofs.Math.IntN.{◌-ℤ◌}
-use Rattle.whole_numbers.specs.Scaling.{word_scale10}
-use Rattle.whole_numbers.specs.Words.{Word, size}
+use Rattle.whole_numbers.specs.Scaling.{interval_scale10}
+use Rattle.whole_numbers.specs.Intervals.{Interval, size}
 use Rattle.sys_model.specs.Systems.{Table}
 use Rattle.equil.specs.Tables.{working_entry, working_right, AreExponents, IsWorking, EntryFits, RightFits, IsFirstPast}
 use Rattle.equil.proofs.Hundreds.{exponent_one}
-use Rattle.chol_guess.proofs.Alone.{SameBelow}
 use Rattle.enclosure_check.proofs.AloneVectors.{SameTable, flipped_below}
 use Rattle.plain_rows.specs.Plain.{PlainFile}
 use Rattle.solve_plain.specs.Files.{file_words, AreModest, EntryIsModest, RightIsModest}
 use Rattle.solve_plain.specs.Solving.{HasWorking, IsFirstEntryPast, IsFirstRightPast}
 use Rattle.solve_plain.proofs.AloneFirsts.{IsFirstFailing, CarriesLower, CarriesBelow, no_failure, failure_alone}
+use Rattle.whole_numbers.specs.Lists.{SameBelow}
 
 -- ---- the words of the file
 -- the first word that is not modest
@@ -38,11 +38,11 @@ modest_no_immodest p i j m a =
 pub exponents_alone : (n : ℕ) (t : Table) (e f : ℕ → ℤ) → AreExponents n t.entry e → AreExponents n t.entry f → SameBelow n e f
 exponents_alone n t e f a b i row = exponent_one (t.entry i i).hi (e i) (f i) (a i row) (b i row)
 
-entry_same : (n : ℕ) (t : ℕ → ℕ → Word) (e f : ℕ → ℤ) (i j : ℕ) → SameBelow n e f → i < n → j < n → working_entry t e i j ≡ working_entry t f i j
-entry_same n t e f i j same row column = ap (λ a. word_scale10 (t i j) (neg_ℤ a -ℤ e j)) (same i row) ∙ ap (λ b. word_scale10 (t i j) (neg_ℤ (f i) -ℤ b)) (same j column)
+entry_same : (n : ℕ) (t : ℕ → ℕ → Interval) (e f : ℕ → ℤ) (i j : ℕ) → SameBelow n e f → i < n → j < n → working_entry t e i j ≡ working_entry t f i j
+entry_same n t e f i j same row column = ap (λ a. interval_scale10 (t i j) (neg_ℤ a -ℤ e j)) (same i row) ∙ ap (λ b. interval_scale10 (t i j) (neg_ℤ (f i) -ℤ b)) (same j column)
 
-right_same : (n : ℕ) (d : ℕ → Word) (e f : ℕ → ℤ) (i : ℕ) → SameBelow n e f → i < n → working_right d e i ≡ working_right d f i
-right_same n d e f i same row = ap (λ a. word_scale10 (d i) (pos 12 -ℤ a)) (same i row)
+right_same : (n : ℕ) (d : ℕ → Interval) (e f : ℕ → ℤ) (i : ℕ) → SameBelow n e f → i < n → working_right d e i ≡ working_right d f i
+right_same n d e f i same row = ap (λ a. interval_scale10 (d i) (pos 12 -ℤ a)) (same i row)
 
 pub working_alone : (n : ℕ) (t w v : Table) (e f : ℕ → ℤ) → IsWorking n t w e → IsWorking n t v f → SameTable n w v
 working_alone n t w v e f a b =
@@ -52,10 +52,10 @@ working_alone n t w v e f a b =
       rights = λ i row. a.rights i row ∙ right_same n t.right e f i same row ∙ sym (b.rights i row);
     }
 
-entries_carry : (n : ℕ) (t : ℕ → ℕ → Word) (e f : ℕ → ℤ) → SameBelow n e f → CarriesLower n (EntryFits t e) (EntryFits t f)
+entries_carry : (n : ℕ) (t : ℕ → ℕ → Interval) (e f : ℕ → ℤ) → SameBelow n e f → CarriesLower n (EntryFits t e) (EntryFits t f)
 entries_carry n t e f same i j row lower fits = subst (λ w. size w ≤ 2 ^ 61) (entry_same n t e f i j same row (omega arith)) fits
 
-rights_carry : (n : ℕ) (d : ℕ → Word) (e f : ℕ → ℤ) → SameBelow n e f → CarriesBelow n (RightFits d e) (RightFits d f)
+rights_carry : (n : ℕ) (d : ℕ → Interval) (e f : ℕ → ℤ) → SameBelow n e f → CarriesBelow n (RightFits d e) (RightFits d f)
 rights_carry n d e f same i row fits = subst (λ w. size w ≤ 10 ^ 37) (right_same n d e f i same row) fits
 
 past_fails : (n : ℕ) (t : Table) (row col : ℕ) (a : IsFirstPast n t row col) → IsFirstFailing n (EntryFits t.entry a.e) (RightFits t.right a.e) row col

@@ -4,15 +4,16 @@ use Rattle.std.proofs.Math.Decide.{dec_le, ℕ_discrete}
 use Rattle.std.proofs.lemmas.Bool.Decides.{nat_tests}
 use Rattle.std.proofs.lemmas.List.{take_all}
 use Rattle.std.proofs.lemmas.List.Elements.{All-cons, All-head, All-tail, All-weaker, All-nil, All-get_or}
-use Rattle.decimal_e.specs.Scales.{decimal_word}
-use Rattle.whole_numbers.specs.Words.{Word}
+use Rattle.decimal_e.specs.Scales.{decimal_interval}
+use Rattle.whole_numbers.specs.Intervals.{Interval}
 use Rattle.sym_blocks.specs.Tables.{SymTable, word, IsPair}
 use Rattle.equil.proofs.RowLaws.{IsSet}
-use Rattle.plain_rows.specs.Plain.{PlainFile, Ascends, IsPairBefore}
+use Rattle.plain_rows.specs.Plain.{PlainFile, IsPairBefore}
 use Rattle.plain_rows.specs.declared.Element.{Element}
 use Rattle.solve_plain.specs.Files.{element_of, zero_decimal, IsLower, IsSound, EntryIsModest}
 use Rattle.solve_plain.specs.Solving.{IsFirstEntryPast}
 use Rattle.solve_plain.specs.Words.{IsModest, HasEntries, with_first}
+use Rattle.stated_order.specs.Lists.{Ascends}
 
 -- the element stands at (i, j)
 abbrev IsAt : Element → ℕ → ℕ → Type 0
@@ -114,16 +115,16 @@ module _ (p : PlainFile) (k : ℕ) (e : Element) (sound : IsSound p) (within : k
   lower : IsLower (length p.rows) e
   lower = subst (IsLower (length p.rows)) (sym is) (All-get_or (IsLower (length p.rows)) p.elements k e within sound.within)
 
-  word_step : (v : Word) (a b : SymTable) → a.size ≡ length p.rows → IsSet e.row e.col v a b → v ≡ decimal_word e.value (pos 18) → HasEntries (with_first k p) a
-      → (i j : ℕ) → i < length p.rows → j < length p.rows → word b i j ≡ decimal_word (element_of (take (suc k) p.elements) (max i j) (min i j)) (pos 18)
+  word_step : (v : Interval) (a b : SymTable) → a.size ≡ length p.rows → IsSet e.row e.col v a b → v ≡ decimal_interval e.value (pos 18) → HasEntries (with_first k p) a
+      → (i j : ℕ) → i < length p.rows → j < length p.rows → word b i j ≡ decimal_interval (element_of (take (suc k) p.elements) (max i j) (min i j)) (pos 18)
   word_step v a b size set value done i j li lj = elim (pair_cases e (max i j) (min i j)) [
     | inl at ↦
         let here = first_taken p.elements k e e sound.ascends within is in
         let moved : element_of (take (suc k) p.elements) (max i j) (min i j) ≡ e.value = subst (λ m. element_of (take (suc k) p.elements) (max i j) m ≡ e.value) at.1 (subst (λ m. element_of (take (suc k) p.elements) m e.col ≡ e.value) at.0 here) in
-        set.here i j (at_pair e i j at) ∙ value ∙ ap (λ d. decimal_word d (pos 18)) (sym moved)
+        set.here i j (at_pair e i j at) ∙ value ∙ ap (λ d. decimal_interval d (pos 18)) (sym moved)
     | inr apart ↦
         set.others i j (omega arith) (omega arith) (λ pair. apart (pair_at e i j lower.col pair)) ∙ done.words i j li lj
-        ∙ ap (λ d. decimal_word d (pos 18)) (sym (others_taken p.elements k e e (max i j) (min i j) within is apart))
+        ∙ ap (λ d. decimal_interval d (pos 18)) (sym (others_taken p.elements k e e (max i j) (min i j) within is apart))
   ]
 
   modest_step : (a : SymTable) → IsModest e.value → HasEntries (with_first k p) a → (i j : ℕ) → IsModest (element_of (take (suc k) p.elements) (max i j) (min i j))
@@ -134,7 +135,7 @@ module _ (p : PlainFile) (k : ℕ) (e : Element) (sound : IsSound p) (within : k
     | inr apart ↦ subst IsModest (sym (others_taken p.elements k e e (max i j) (min i j) within is apart)) (done.modest i j)
   ]
 
-  pub table_step : (v : Word) (a b : SymTable) → a.size ≡ length p.rows → IsSet e.row e.col v a b → IsModest e.value → v ≡ decimal_word e.value (pos 18) → HasEntries (with_first k p) a → HasEntries (with_first (k + 1) p) b
+  pub table_step : (v : Interval) (a b : SymTable) → a.size ≡ length p.rows → IsSet e.row e.col v a b → IsModest e.value → v ≡ decimal_interval e.value (pos 18) → HasEntries (with_first k p) a → HasEntries (with_first (k + 1) p) b
   table_step v a b size set modest value done = rw add-one (record { words = word_step v a b size set value done; modest = modest_step a modest done })
 
   earlier : (a : SymTable) → HasEntries (with_first k p) a → (i j : ℕ) → ComesBefore (max i j) (min i j) e → EntryIsModest p i j

@@ -5,15 +5,15 @@ use Rattle.std.proofs.Math.Path.{fun_ext}
 use Rattle.std.proofs.lemmas.List.{length-map}
 use Rattle.decimal_e.specs.Decimals.{Decimal}
 use Rattle.decimal_e.specs.Fractions.{IsAtMost}
-use Rattle.decimal_e.specs.Scales.{decimal_word}
-use Rattle.whole_numbers.specs.Words.{Word}
-use Rattle.sym_blocks.specs.Tables.{zero_word}
-use Rattle.equil.proofs.RowLaws.{each_push}
+use Rattle.decimal_e.specs.Scales.{decimal_interval}
+use Rattle.whole_numbers.specs.Intervals.{Interval}
+use Rattle.sym_blocks.specs.Tables.{zero_interval}
 use Rattle.plain_rows.specs.Plain.{PlainFile}
 use Rattle.plain_rows.specs.declared.Row.{Row}
 use Rattle.bounds_report.specs.Printing.{decimal_at}
 use Rattle.solve_plain.specs.Files.{vector_of, apriori_of, file_words, RightIsModest, IsSound}
 use Rattle.solve_plain.specs.Words.{IsModest, HasRights}
+use Rattle.whole_numbers.proofs.ListLaws.{each_push}
 
 -- what is left of a list by place, behind its first member
 behind_first : (i : ℕ) (d : Decimal) (f : ℕ → Decimal) → cond (eqb (suc i) 0) d (f (suc i - 1)) ≡ f i
@@ -28,14 +28,14 @@ vector_at (first ∷ rows) zero row l is = ap (λ r. r.vector) is
 vector_at (first ∷ rows) (suc i) row l is = vector_at rows i row (omega arith) is ∙ sym (behind_first i first.vector (vector_of rows))
 
 -- the answer of a row's decimal is that of the file's
-pub right_answer : (p : PlainFile) (i : ℕ) (row : Row) (answer : Option Word) → i < length p.rows → row ≡ get_or p.rows i row
-    → SomeIff answer (IsModest row.vector) (decimal_word row.vector (pos 18)) → SomeIff answer (RightIsModest p i) ((file_words p).right i)
-right_answer p i row answer l is h = subst (λ d. SomeIff answer (IsModest d) (decimal_word d (pos 18))) (vector_at p.rows i row l is) h
+pub right_answer : (p : PlainFile) (i : ℕ) (row : Row) (answer : Option Interval) → i < length p.rows → row ≡ get_or p.rows i row
+    → SomeIff answer (IsModest row.vector) (decimal_interval row.vector (pos 18)) → SomeIff answer (RightIsModest p i) ((file_words p).right i)
+right_answer p i row answer l is h = subst (λ d. SomeIff answer (IsModest d) (decimal_interval d (pos 18))) (vector_at p.rows i row l is) h
 
 -- one more word of the vector
-pub rights_step : (p : PlainFile) (k : ℕ) (w : Word) (ds xs : List Word) → length ds ≡ k → xs ≡ ds ++ w ∷ [] → RightIsModest p k → w ≡ (file_words p).right k → HasRights p k ds → HasRights p (k + 1) xs
+pub rights_step : (p : PlainFile) (k : ℕ) (w : Interval) (ds xs : List Interval) → length ds ≡ k → xs ≡ ds ++ w ∷ [] → RightIsModest p k → w ≡ (file_words p).right k → HasRights p k ds → HasRights p (k + 1) xs
 rights_step p k w ds xs len is modest value done = record {
-  words = λ i l. ap (λ zs. get_or zs i zero_word) is ∙ each_push (λ i v. v ≡ (file_words p).right i) ds k w zero_word len done.words value i l;
+  words = λ i l. ap (λ zs. get_or zs i zero_interval) is ∙ each_push (λ i v. v ≡ (file_words p).right i) ds k w zero_interval len done.words value i l;
   modest = below_more _ k done.modest modest;
 }
 

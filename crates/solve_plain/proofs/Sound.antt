@@ -4,10 +4,11 @@ use Rattle.std.proofs.Math.Dec.{eqb-suc-zero}
 use Rattle.std.proofs.lemmas.List.Elements.{All-nil, All-cons}
 use Rattle.std.specs.List.{All}
 use Rattle.decimal_e.specs.Fractions.{IsAtMost}
-use Rattle.plain_rows.specs.Plain.{PlainFile, IsPlainForm, RowText, ElementText, IsRowOf, IsElementOf, AreEach}
+use Rattle.plain_rows.specs.Plain.{PlainFile, IsPlainForm, RowText, ElementText, IsRowOf, IsElementOf}
 use Rattle.plain_rows.specs.declared.Row.{Row}
 use Rattle.plain_rows.specs.declared.Element.{Element}
 use Rattle.solve_plain.specs.Files.{IsSound, IsLower, apriori_of}
+use Rattle.stated_order.specs.Lists.{AreEach}
 
 apriori_of-next : (row : Row) (rows : List Row) (i : ℕ) → apriori_of (row ∷ rows) (suc i) ≡ apriori_of rows i
 apriori_of-next row rows i =

@@ -1,8 +1,8 @@
 -- A file's table and list of words, the working table of these, and the file's own.
 use Rattle.std.proofs.Common.{◌≡◌, ◌<◌, ◌≤◌, ◌^◌, inl, inr, ℕ, pos, ℤ, neg_ℤ, List, length, refl, sym, subst, arith}
 use Rattle.std.proofs.Math.IntN.{◌-ℤ◌}
-use Rattle.whole_numbers.specs.Words.{Word, Holds, size}
-use Rattle.whole_numbers.specs.Scaling.{word_scale10}
+use Rattle.whole_numbers.specs.Intervals.{Interval, Holds, size}
+use Rattle.whole_numbers.specs.Scaling.{interval_scale10}
 use Rattle.sym_blocks.specs.Tables.{SymTable, word}
 use Rattle.sys_model.specs.Systems.{Table, System, LiesIn}
 use Rattle.equil.specs.declared.EquilError.{EquilError}
@@ -18,7 +18,7 @@ use Rattle.solve_plain.specs.Solving.{HasWorking, IsRefusedWith}
 use Rattle.solve_plain.specs.Words.{HasEntries, HasRights}
 
 -- ---- what holds of the table holds of the file's words
-module _ (p : PlainFile) (t : SymTable) (ds : List Word) (entries : HasEntries p t) (rights : HasRights p (length p.rows) ds) where
+module _ (p : PlainFile) (t : SymTable) (ds : List Interval) (entries : HasEntries p t) (rights : HasRights p (length p.rows) ds) where
   modest : AreModest p
   modest = record { entries = λ i j _ _. entries.modest i j; rights = rights.modest }
 
@@ -26,16 +26,16 @@ module _ (p : PlainFile) (t : SymTable) (ds : List Word) (entries : HasEntries p
   exponents_moved e are i l = subst (λ w. IsExponent w.hi (e i)) (entries.words i i l l) (are i l)
 
   entry_moved : (e : ℕ → ℤ) (i j : ℕ) → i < length p.rows → j ≤ i → EntryFits (word t) e i j → EntryFits (file_words p).entry e i j
-  entry_moved e i j l m = subst (λ w. size (word_scale10 w (neg_ℤ (e i) -ℤ e j)) ≤ 2 ^ 61) (entries.words i j l (omega arith))
+  entry_moved e i j l m = subst (λ w. size (interval_scale10 w (neg_ℤ (e i) -ℤ e j)) ≤ 2 ^ 61) (entries.words i j l (omega arith))
 
   entry_back : (e : ℕ → ℤ) (i j : ℕ) → i < length p.rows → j ≤ i → EntryFits (file_words p).entry e i j → EntryFits (word t) e i j
-  entry_back e i j l m = subst (λ w. size (word_scale10 w (neg_ℤ (e i) -ℤ e j)) ≤ 2 ^ 61) (sym (entries.words i j l (omega arith)))
+  entry_back e i j l m = subst (λ w. size (interval_scale10 w (neg_ℤ (e i) -ℤ e j)) ≤ 2 ^ 61) (sym (entries.words i j l (omega arith)))
 
   right_moved : (e : ℕ → ℤ) (i : ℕ) → i < length p.rows → RightFits (table_of t ds).right e i → RightFits (file_words p).right e i
-  right_moved e i l = subst (λ w. size (word_scale10 w (pos 12 -ℤ e i)) ≤ 10 ^ 37) (rights.words i l)
+  right_moved e i l = subst (λ w. size (interval_scale10 w (pos 12 -ℤ e i)) ≤ 10 ^ 37) (rights.words i l)
 
   right_back : (e : ℕ → ℤ) (i : ℕ) → i < length p.rows → RightFits (file_words p).right e i → RightFits (table_of t ds).right e i
-  right_back e i l = subst (λ w. size (word_scale10 w (pos 12 -ℤ e i)) ≤ 10 ^ 37) (sym (rights.words i l))
+  right_back e i l = subst (λ w. size (interval_scale10 w (pos 12 -ℤ e i)) ≤ 10 ^ 37) (sym (rights.words i l))
 
   first_moved : (e : ℕ → ℤ) (row col : ℕ) → IsFirstEntry (length p.rows) (word t) e row col → IsFirstEntry (length p.rows) (file_words p).entry e row col
   first_moved e row col f =
@@ -77,8 +77,8 @@ module _ (p : PlainFile) (t : SymTable) (ds : List Word) (entries : HasEntries p
   working_moved : (w : Table) (e : ℕ → ℤ) → IsWorking (length p.rows) (table_of t ds) w e → IsWorking (length p.rows) (file_words p) w e
   working_moved w e h = record {
     exponents = exponents_moved e h.exponents;
-    entries = λ i j li lj. subst (λ v. w.entry i j ≡ word_scale10 v (neg_ℤ (e i) -ℤ e j)) (entries.words i j li lj) (h.entries i j li lj);
-    rights = λ i l. subst (λ v. w.right i ≡ word_scale10 v (pos 12 -ℤ e i)) (rights.words i l) (h.rights i l);
+    entries = λ i j li lj. subst (λ v. w.entry i j ≡ interval_scale10 v (neg_ℤ (e i) -ℤ e j)) (entries.words i j li lj) (h.entries i j li lj);
+    rights = λ i l. subst (λ v. w.right i ≡ interval_scale10 v (pos 12 -ℤ e i)) (rights.words i l) (h.rights i l);
   }
 
   pub has_working : (w : Table) (e : ℕ → ℤ) → ((i j : ℕ) → i < length p.rows → j < length p.rows → size (w.entry i j) ≤ 2 ^ 61) → ((i : ℕ) → i < length p.rows → size (w.right i) ≤ 10 ^ 37)
@@ -103,7 +103,7 @@ module _ (p : PlainFile) (t : SymTable) (ds : List Word) (entries : HasEntries p
   carries_moved w e h = record { lies = λ S l. h.lies S (lies_moved S l); solves = h.solves; solved = h.solved }
 
 -- ---- the answer of `working`, in its own terms
-module _ (p : PlainFile) (t : SymTable) (rs ds : List Word) (len : t.size ≡ length p.rows) (same : rs ≡ ds) (entries : HasEntries p t) (rights : HasRights p (length p.rows) ds) where
+module _ (p : PlainFile) (t : SymTable) (rs ds : List Interval) (len : t.size ≡ length p.rows) (same : rs ≡ ds) (entries : HasEntries p t) (rights : HasRights p (length p.rows) ds) where
   pub answer_refused : (x : EquilError) → IfRange (IsFirstPast t.size (table_of t rs)) x → IsRefusedWith p (working_refusal x)
   answer_refused x h = working_refused p t ds entries rights x (subst (λ m. IfRange (IsFirstPast m (table_of t ds)) x) len (subst (λ l. IfRange (IsFirstPast t.size (table_of t l)) x) same h))
 

@@ -2,14 +2,10 @@
 -- Source: the blocks SOLUTION/NORMAL_EQUATION_MATRIX and SOLUTION/NORMAL_EQUATION_VECTOR of the SINEX 2.02 format description.
 use Rattle.std.specs.Prelude.{◌≡◌, ◌<◌, ℕ, ℤ, pos, ◌*ℤ◌, length}
 use Rattle.decimal_e.specs.Decimals.{Decimal}
-use Rattle.decimal_e.specs.Fractions.{numerator, denominator}
+use Rattle.decimal_e.specs.Fractions.{numerator, denominator, Means}
 use Rattle.sys_model.specs.Systems.{System}
 use Rattle.plain_rows.specs.Plain.{PlainFile}
 use Rattle.solve_plain.specs.Files.{matrix_of, vector_of}
-
--- the fraction x / q is the decimal
-abbrev pub Means : Decimal → ℤ → ℕ → Type 0
-Means d x q = numerator d *ℤ pos q ≡ x *ℤ pos (denominator d)
 
 -- the matrix and the right side are those that the file's numbers mean
 pub record IsExact (p : PlainFile) (S : System) : Type 0 where

@@ -2,13 +2,14 @@
 use Rattle.std.specs.Prelude.{◌≤◌, ◌<◌, ◌^◌, ◌&&◌, ◌-◌, ℕ, pos, List, [], ◌∷◌, length, All, max, min, eqb, if◌then◌else◌}
 use Rattle.decimal_e.specs.Decimals.{Decimal}
 use Rattle.decimal_e.specs.Fractions.{IsAtMost}
-use Rattle.decimal_e.specs.Scales.{decimal_word}
-use Rattle.whole_numbers.specs.Words.{size}
+use Rattle.decimal_e.specs.Scales.{decimal_interval}
+use Rattle.whole_numbers.specs.Intervals.{size}
 use Rattle.sys_model.specs.Systems.{Table}
-use Rattle.plain_rows.specs.Plain.{PlainFile, Ascends, IsPairBefore}
+use Rattle.plain_rows.specs.Plain.{PlainFile, IsPairBefore}
 use Rattle.plain_rows.specs.declared.Plain.{Plain}
 use Rattle.plain_rows.specs.declared.Row.{Row}
 use Rattle.plain_rows.specs.declared.Element.{Element}
+use Rattle.stated_order.specs.Lists.{Ascends}
 
 -- the lists of a file in memory
 abbrev pub file_of : Plain → PlainFile
@@ -37,7 +38,7 @@ apriori_of (row ∷ rows) i = if eqb i 0 then row.apriori else apriori_of rows (
 
 -- the words at 10^18 of the matrix and of the vector
 abbrev pub file_words : PlainFile → Table
-file_words p = record { entry = λ i j. decimal_word (matrix_of p i j) (pos 18); right = λ i. decimal_word (vector_of p.rows i) (pos 18) }
+file_words p = record { entry = λ i j. decimal_interval (matrix_of p i j) (pos 18); right = λ i. decimal_interval (vector_of p.rows i) (pos 18) }
 
 -- a word of a file is at most 10^34 in size
 abbrev pub EntryIsModest : PlainFile → ℕ → ℕ → Type 0

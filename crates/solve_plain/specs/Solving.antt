@@ -1,9 +1,8 @@
 -- The rules from a file in the plain form to the numbers that are printed, and where they refuse.
-use Rattle.std.specs.Prelude.{◌≡◌, ◌≤◌, ◌<◌, ◌⊎◌, ℕ, ℤ, List, length, slice_index_or}
-use Rattle.whole_numbers.specs.Words.{size}
+use Rattle.std.specs.Prelude.{◌≡◌, ◌≤◌, ◌<◌, ◌⊎◌, ℕ, ℤ, List, length, slice_index_or, Result, Ok, Err}
+use Rattle.whole_numbers.specs.Intervals.{size, midpoint}
 use Rattle.sys_model.specs.Systems.{Table}
-use Rattle.chol_factor.specs.Factor.{middle}
-use Rattle.chol_factor.specs.Squares.{at}
+use Rattle.whole_numbers.specs.Lists.{at}
 use Rattle.equil.specs.Tables.{IsWorking, EntriesFit, RightFits, IsFirstPast}
 use Rattle.enclosure_check.specs.Answers.{IsEnclosed, IsEncloseRefused}
 use Rattle.enclosure_check.specs.declared.Enclosed.{Enclosed}
@@ -37,13 +36,13 @@ pub record HasWorking (p : PlainFile) (w : Table) (e : ℕ → ℤ) : Type 0 whe
   pub rights_fit : (i : ℕ) → i < length p.rows → RightFits (file_words p).right e i
 
 -- the middles of a table
-abbrev pub middles_of : Table → ℕ → ℕ → ℤ
-middles_of w i j = middle (w.entry i j)
+abbrev pub midpoints_of : Table → ℕ → ℕ → ℤ
+midpoints_of w i j = midpoint (w.entry i j)
 
 -- and c is its pilot with the start vector and the certificate
 pub record HasEnclosure (p : PlainFile) (w : Table) (e : ℕ → ℤ) (c : Enclosed) : Type 0 where
   pub working : HasWorking p w e
-  pub enclosed : IsEnclosed (length p.rows) w (middles_of w) c
+  pub enclosed : IsEnclosed (length p.rows) w (midpoints_of w) c
 
 -- the rules give these numbers for the file
 pub record IsSolved (p : PlainFile) (s : Numbers) : Type 0 where
@@ -91,14 +90,19 @@ abbrev pub IsRefusal : PlainFile → SolveError → Type 0
 IsRefusal p (Words row col) = IsFirstEntryPast p row col ⊎ ((row ≡ col) × IsFirstRightPast p row)
 IsRefusal p (Range row col) =
     (AreModest p × IsFirstPast (length p.rows) (file_words p) row col)
-    ⊎ (((row ≡ col) × AfterWorking p (λ w e. IsEncloseRefused (length p.rows) w (middles_of w) (enclose.Range row)))
+    ⊎ (((row ≡ col) × AfterWorking p (λ w e. IsEncloseRefused (length p.rows) w (midpoints_of w) (enclose.Range row)))
     ⊎ ((row ≡ col) × IsUnprintable p row))
-IsRefusal p (Pivot row) = AfterWorking p (λ w e. IsEncloseRefused (length p.rows) w (middles_of w) (enclose.Pivot row))
-IsRefusal p (Condition col) = AfterWorking p (λ w e. IsEncloseRefused (length p.rows) w (middles_of w) (enclose.Condition col))
-IsRefusal p (Residual row size) = AfterWorking p (λ w e. IsEncloseRefused (length p.rows) w (middles_of w) (enclose.Residual row size))
-IsRefusal p (Defect row parts) = AfterWorking p (λ w e. IsEncloseRefused (length p.rows) w (middles_of w) (enclose.Defect row parts))
+IsRefusal p (Pivot row) = AfterWorking p (λ w e. IsEncloseRefused (length p.rows) w (midpoints_of w) (enclose.Pivot row))
+IsRefusal p (Condition col) = AfterWorking p (λ w e. IsEncloseRefused (length p.rows) w (midpoints_of w) (enclose.Condition col))
+IsRefusal p (Residual row size) = AfterWorking p (λ w e. IsEncloseRefused (length p.rows) w (midpoints_of w) (enclose.Residual row size))
+IsRefusal p (Defect row parts) = AfterWorking p (λ w e. IsEncloseRefused (length p.rows) w (midpoints_of w) (enclose.Defect row parts))
 IsRefusal p Memory = ⊥
 
 -- a refusal of the rules, or want of memory
 abbrev pub IsRefusedWith : PlainFile → SolveError → Type 0
 IsRefusedWith p refusal = (refusal ≡ Memory) ⊎ IsRefusal p refusal
+
+-- The answer of the rules to the file: the numbers of its report, or the first cause for which they refuse it.
+abbrev pub IsAnswer : PlainFile → Result Numbers SolveError → Type 0
+IsAnswer p (Ok numbers) = IsSolved p numbers
+IsAnswer p (Err cause) = IsRefusal p cause

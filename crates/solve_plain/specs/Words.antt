@@ -1,9 +1,9 @@
 -- The words of a file in memory: a symmetric table and the list of its vector's.
 use Rattle.std.specs.Prelude.{◌≡◌, ◌≤◌, ◌<◌, ◌^◌, ℕ, pos, List, length, take, slice_index_or, ⊤}
 use Rattle.decimal_e.specs.Decimals.{Decimal}
-use Rattle.decimal_e.specs.Scales.{decimal_word}
-use Rattle.whole_numbers.specs.Words.{Word, size}
-use Rattle.sym_blocks.specs.Tables.{SymTable, word, zero_word}
+use Rattle.decimal_e.specs.Scales.{decimal_interval}
+use Rattle.whole_numbers.specs.Intervals.{Interval, size}
+use Rattle.sym_blocks.specs.Tables.{SymTable, word, zero_interval}
 use Rattle.plain_rows.specs.Plain.{PlainFile}
 use Rattle.solve_plain.specs.Files.{file_words, EntryIsModest, RightIsModest}
 use Rattle.solve_plain.specs.declared.SolveError.{SolveError}
@@ -11,7 +11,7 @@ use Rattle.solve_plain.specs.declared.SolveError.TheVariants.{Words, Range, Pivo
 
 -- the decimal's word at 10^18 is at most 10^34 in size
 abbrev pub IsModest : Decimal → Type 0
-IsModest d = size (decimal_word d (pos 18)) ≤ 10 ^ 34
+IsModest d = size (decimal_interval d (pos 18)) ≤ 10 ^ 34
 
 -- the file with the first k of its elements
 abbrev pub with_first : ℕ → PlainFile → PlainFile
@@ -23,8 +23,8 @@ pub record HasEntries (p : PlainFile) (t : SymTable) : Type 0 where
   pub modest : (i j : ℕ) → EntryIsModest p i j
 
 -- the list holds the words of the first n elements of the file's vector, and these are modest
-pub record HasRights (p : PlainFile) (n : ℕ) (ds : List Word) : Type 0 where
-  pub words : (i : ℕ) → i < n → slice_index_or ds i zero_word ≡ (file_words p).right i
+pub record HasRights (p : PlainFile) (n : ℕ) (ds : List Interval) : Type 0 where
+  pub words : (i : ℕ) → i < n → slice_index_or ds i zero_interval ≡ (file_words p).right i
   pub modest : (i : ℕ) → i < n → RightIsModest p i
 
 -- what a refusal of a word says: P of the row and column that it names, and nothing where memory is wanting

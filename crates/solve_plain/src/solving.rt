@@ -1,11 +1,11 @@
 //! From a file to the numbers of its report, step by step.
 
 ghost use Rattle.std.specs.Prelude.{◌≡◌, ◌≤◌, length, map, IfOk, IfErr};
-ghost use Rattle.bounds_report.specs.Bounds.{AreCertified, LiesInStack};
+ghost use Rattle.bounds_report.specs.Bounds.{AreCertified};
 ghost use Rattle.bounds_report.specs.Printing.{numbers_at};
 ghost use Rattle.equil.specs.Scaled.{CarriesSystems};
 ghost use Rattle.equil.specs.Tables.{table_of, exponent_of};
-ghost use Rattle.sys_model.specs.Systems.{System};
+ghost use Rattle.sys_model.specs.Systems.{System, LiesInStack};
 ghost use Rattle.solve_plain.specs.Exact.{IsExact};
 ghost use Rattle.solve_plain.specs.Files.{IsSound, file_of, file_words, apriori_of};
 ghost use Rattle.solve_plain.specs.Solving.{HasWorking, IsSolved, IsRefusedWith, numbers_in};

@@ -2,7 +2,7 @@
 
 ghost use Rattle.std.specs.Prelude.{◌≡◌, ◌≤◌, ◌<◌, ◌^◌, ℕ, pos, length, SomeIff, IfOk, IfErr};
 ghost use Rattle.std.specs.Vec.{vec_len};
-ghost use Rattle.decimal_e.specs.Scales.{decimal_word};
+ghost use Rattle.decimal_e.specs.Scales.{decimal_interval};
 ghost use Rattle.solve_plain.specs.Files.{IsSound, file_of, file_words, EntryIsModest, RightIsModest};
 ghost use Rattle.solve_plain.specs.Solving.{IsFirstEntryPast, IsFirstRightPast};
 ghost use Rattle.solve_plain.specs.Words.{IsModest, HasEntries, HasRights, IfWords};
@@ -19,7 +19,7 @@ const LIMIT: u128 = 10_000_000_000_000_000_000_000_000_000_000_000;
 
 /// The word of a decimal at 10^18, and None exactly where it passes 10^34 in size.
 fn modest_word(d: &Dec) -> Option<Iv>
-    ensures { SomeIff result (IsModest d.now) (decimal_word d.now (pos 18)) }
+    ensures { SomeIff result (IsModest d.now) (decimal_interval d.now (pos 18)) }
 {
     let lo = floor_at(d, 18)?;
     let hi = ceil_at(d, 18)?;

@@ -1,11 +1,11 @@
 -- Symmetric tables and lower triangles, by the lists of their lower words, row by row.
 use Rattle.std.specs.Prelude.{◌≡◌, ◌+◌, ◌⊎◌, ℕ, zero, suc, ℤ, pos, ◌+ℤ◌, List, max, min, slice_index_or, FitsSigned}
 use Rattle.std.specs.Int.{w128}
-use Rattle.whole_numbers.specs.Words.{Word, point_word}
+use Rattle.whole_numbers.specs.Intervals.{Interval, point_interval}
 
 -- the word of the number 0
-abbrev pub zero_word : Word
-zero_word = point_word (pos 0)
+abbrev pub zero_interval : Interval
+zero_interval = point_interval (pos 0)
 
 -- how many words stand in the rows before row n, each up to its diagonal
 unfoldable pub before : ℕ → ℕ
@@ -23,11 +23,11 @@ place i j = lower_place (max i j) (min i j)
 -- a symmetric table: its size and its lower words
 pub record SymTable : Type 0 where
   pub size : ℕ
-  pub words : List Word
+  pub words : List Interval
 
 -- the word of the pair (i, j)
-abbrev pub word : SymTable → ℕ → ℕ → Word
-word table i j = slice_index_or table.words (place i j) zero_word
+abbrev pub word : SymTable → ℕ → ℕ → Interval
+word table i j = slice_index_or table.words (place i j) zero_interval
 
 -- a lower triangle: its size and its numbers
 pub record TriTable : Type 0 where
@@ -43,6 +43,6 @@ abbrev pub IsPair : ℕ → ℕ → ℕ → ℕ → Type 0
 IsPair i j k l = ((k ≡ i) × (l ≡ j)) ⊎ ((k ≡ j) × (l ≡ i))
 
 -- the ends of the sum fit 128 bits
-pub record SumFits (a b : Word) : Type 0 where
+pub record SumFits (a b : Interval) : Type 0 where
   pub low : FitsSigned w128 (a.lo +ℤ b.lo)
   pub high : FitsSigned w128 (a.hi +ℤ b.hi)

@@ -2,8 +2,8 @@
 
 ghost use Rattle.std.specs.Prelude.{◌≡◌, ◌≤◌, ◌<◌, ◌+◌, ◌*◌, ◌/◌, ℕ, ℤ, List, length, replicate, slice_index_or, IfOk, max, min, FitsSigned, ◌+ℤ◌};
 ghost use Rattle.std.specs.Int.{w128};
-ghost use Rattle.whole_numbers.specs.Words.{Word, word_add};
-ghost use Rattle.sym_blocks.specs.Tables.{before, place, SymTable, word, zero_word, IsPair, SumFits};
+ghost use Rattle.whole_numbers.specs.Intervals.{Interval, interval_add};
+ghost use Rattle.sym_blocks.specs.Tables.{before, place, SymTable, word, zero_interval, IsPair, SumFits};
 
 use crate::places::{lower_place_of, words_before};
 use interval_word::Iv;
@@ -38,15 +38,15 @@ fn place_of(i: usize, j: usize) -> usize
 
 fn word_at(words: &[Iv], at: usize) -> Iv
     requires { at < length words.now }
-    ensures { result ≡ slice_index_or words.now at zero_word }
+    ensures { result ≡ slice_index_or words.now at zero_interval }
 {
     words[at]
 }
 
 fn add_words(words: &mut [Iv], other: &[Iv])
     requires lengths { length words.old ≡ length other.now }
-    requires fits { (k : ℕ) → k < length words.old → SumFits (slice_index_or words.old k zero_word) (slice_index_or other.now k zero_word) }
-    ensures { (k : ℕ) → k < length words.old → slice_index_or words.new k zero_word ≡ word_add (slice_index_or words.old k zero_word) (slice_index_or other.now k zero_word) }
+    requires fits { (k : ℕ) → k < length words.old → SumFits (slice_index_or words.old k zero_interval) (slice_index_or other.now k zero_interval) }
+    ensures { (k : ℕ) → k < length words.old → slice_index_or words.new k zero_interval ≡ interval_add (slice_index_or words.old k zero_interval) (slice_index_or other.now k zero_interval) }
 {
     for k in 0..words.len() {
         words[k] = word_at(words, k).add(&word_at(other, k));
@@ -55,7 +55,7 @@ fn add_words(words: &mut [Iv], other: &[Iv])
 
 fn zeros(alloc: Global, n: usize) -> Result<Vec<Iv>, AllocError>
     requires { n ≤ 1000 }
-    ensures { IfOk result (λ v. v.items ≡ replicate (before n) zero_word) }
+    ensures { IfOk result (λ v. v.items ≡ replicate (before n) zero_interval) }
 {
     vec![in alloc; Iv::point(0); words_before(n)]
 }
@@ -65,7 +65,7 @@ impl<const N: usize> SymBlock<N> {
     pub fn zero(alloc: Global, n: usize) -> Result<SymBlock<N>, AllocError>
         requires { n ≤ 1000 }
         ensures size { IfOk result (λ b. b.size ≡ n) }
-        ensures words { IfOk result (λ b. (i j : ℕ) → i < n → j < n → word b i j ≡ zero_word) }
+        ensures words { IfOk result (λ b. (i j : ℕ) → i < n → j < n → word b i j ≡ zero_interval) }
     {
         let words = zeros(alloc, n)?;
         Ok(SymBlock { size: n, words })
@@ -104,7 +104,7 @@ impl<const N: usize> SymBlock<N> {
         requires sizes { self.old.size ≡ other.now.size }
         requires fits { (i j : ℕ) → i < self.old.size → j ≤ i → SumFits (word self.old i j) (word other.now i j) }
         ensures size { self.new.size ≡ self.old.size }
-        ensures words { (i j : ℕ) → i < self.old.size → j < self.old.size → word self.new i j ≡ word_add (word self.old i j) (word other.now i j) }
+        ensures words { (i j : ℕ) → i < self.old.size → j < self.old.size → word self.new i j ≡ interval_add (word self.old i j) (word other.now i j) }
     {
         add_words(&mut self.words, &other.words);
     }

@@ -7,10 +7,10 @@ use Rattle.std.proofs.lemmas.Nat.{pow-add}
 use Rattle.std.proofs.Common.{cond, eqb, true, false}
 use Rattle.std.proofs.Math.IntN.{zero-*ℤ, *ℤ-zero}
 use Rattle.whole_numbers.specs.Sum.{sum_to, total_to, unit}
-use Rattle.whole_numbers.specs.Words.{Holds, word_scale, sum_words, size, word_shift}
-use Rattle.sys_model.specs.Systems.{row_by, defect_at, System, Fractions, Table, LiesIn, Solves, defect_size, row_parts, left_word, row_error, Passes, rho, radius, around, left_at, distance}
+use Rattle.whole_numbers.specs.Intervals.{Holds, interval_scale, sum_intervals, size, interval_shift}
+use Rattle.sys_model.specs.Systems.{row_by, defect_at, System, Fractions, Table, LiesIn, Solves, defect_size, row_parts, residual_interval, row_error, Passes, rho, radius, around, left_at, distance}
 use Rattle.whole_numbers.proofs.Sums.{sum_to_same, sum_to-*ℤ, sum_to-zero, abs-sum_to, total_to_le, total_to-*, le-total_to}
-use Rattle.whole_numbers.proofs.WordLaws.{holds_sub, holds_point, holds_scale, holds_sum, holds_size, holds_shift, up_over_le, two_pow_above}
+use Rattle.whole_numbers.proofs.IntervalLaws.{holds_sub, holds_point, holds_scale, holds_sum, holds_size, holds_shift, up_over_le, two_pow_above}
 use Rattle.sys_model.proofs.Law.{split_row, contraction, vanishing}
 use Rattle.whole_numbers.proofs.Ring.{ring, *ℤ_left_comm}
 
@@ -42,24 +42,24 @@ unit_scale i j a b = elim (eqb j i) as (λ t. cond t a (pos 0) *ℤ b ≡ cond t
 pub defect_holds : (n p : ℕ) (r : ℕ → ℕ → ℤ) (t : Table) (S : System) (i j : ℕ) → LiesIn n t S → i < n → j < n → unsigned_abs (defect_at n (pos p *ℤ pos S.q) r S.a i j) ≤ defect_size n p r t i j * S.q
 defect_holds n p r t S i j h li lj =
     let one = holds_point (unit i (pos p) j) S.q in
-    let two = holds_sum n (λ k. word_scale (r i k) (t.entry k j)) (λ k. r i k *ℤ S.a k j) S.q (λ k l. holds_scale (r i k) (t.entry k j) (S.a k j) S.q (h.entries k j l lj)) in
+    let two = holds_sum n (λ k. interval_scale (r i k) (t.entry k j)) (λ k. r i k *ℤ S.a k j) S.q (λ k l. holds_scale (r i k) (t.entry k j) (S.a k j) S.q (h.entries k j l lj)) in
     let both = holds_sub _ _ _ _ S.q one two in
     let sized = holds_size _ _ S.q both in
     rw (← (unit_scale i j (pos p) (pos S.q))) sized
 
-pub left_holds : (n : ℕ) (t : Table) (S : System) (y : ℕ → ℤ) (k : ℕ) → LiesIn n t S → k < n → Holds (left_word n t y k) (left_at n S y k) S.q
+pub left_holds : (n : ℕ) (t : Table) (S : System) (y : ℕ → ℤ) (k : ℕ) → LiesIn n t S → k < n → Holds (residual_interval n t y k) (left_at n S y k) S.q
 left_holds n t S y k h l =
     holds_sub (t.right k) _ (S.c k) _ S.q (h.rights k l)
-    (holds_sum n (λ j. word_scale (y j) (t.entry k j)) (λ j. y j *ℤ S.a k j) S.q (λ j m. holds_scale (y j) (t.entry k j) (S.a k j) S.q (h.entries k j l m)))
+    (holds_sum n (λ j. interval_scale (y j) (t.entry k j)) (λ j. y j *ℤ S.a k j) S.q (λ j m. holds_scale (y j) (t.entry k j) (S.a k j) S.q (h.entries k j l m)))
 
 pub error_holds : (n g h : ℕ) (r : ℕ → ℕ → ℤ) (t : Table) (S : System) (y : ℕ → ℤ) (i : ℕ) → h ≤ 60 → LiesIn n t S
     → unsigned_abs (sum_to n (λ k. r i k *ℤ left_at n S y k)) ≤ row_error n g h r t y i * (2 ^ (g + 60) * S.q)
 error_holds n g h r t S y i small lies =
-    let w = λ (k : ℕ). word_scale (r i k) (word_shift h (left_word n t y k)) in
-    let held = holds_sum n w (λ k. r i k *ℤ left_at n S y k) (2 ^ h * S.q) (λ k l. holds_scale (r i k) _ (left_at n S y k) (2 ^ h * S.q) (holds_shift h (left_word n t y k) (left_at n S y k) S.q (left_holds n t S y k lies l))) in
-    let sized = holds_size (sum_words n w) _ (2 ^ h * S.q) held in
+    let w = λ (k : ℕ). interval_scale (r i k) (interval_shift h (residual_interval n t y k)) in
+    let held = holds_sum n w (λ k. r i k *ℤ left_at n S y k) (2 ^ h * S.q) (λ k l. holds_scale (r i k) _ (left_at n S y k) (2 ^ h * S.q) (holds_shift h (residual_interval n t y k) (left_at n S y k) S.q (left_holds n t S y k lies l))) in
+    let sized = holds_size (sum_intervals n w) _ (2 ^ h * S.q) held in
     let m = row_error n g h r t y i in
-    let up = mul-le-mul_right (2 ^ h * S.q) (up_over_le (size (sum_words n w)) (2 ^ (g + 60 - h)) (two_pow_above (g + 60 - h))) in
+    let up = mul-le-mul_right (2 ^ h * S.q) (up_over_le (size (sum_intervals n w)) (2 ^ (g + 60 - h)) (two_pow_above (g + 60 - h))) in
     let e : g + 60 ≡ (g + 60 - h) + h = omega arith in
     let split : 2 ^ (g + 60) ≡ 2 ^ (g + 60 - h) * 2 ^ h = ap (λ z. 2 ^ z) e ∙ pow-add 2 (g + 60 - h) h in
     let scaled = ap (λ z. (m * z) * S.q) split in

@@ -8,7 +8,7 @@ use Rattle.std.proofs.lemmas.Bool.Decides.{nat_tests}
 use Rattle.whole_numbers.specs.Sum.{sum_to}
 use Rattle.sys_model.specs.Systems.{row_by, System, Fractions, Table, LiesIn, Solves, Passes, Encloses, radius, defect_size, row_parts}
 use Rattle.sys_model.proofs.Law.{vanishing}
-use Rattle.whole_numbers.proofs.WordLaws.{two_pow_above}
+use Rattle.whole_numbers.proofs.IntervalLaws.{two_pow_above}
 use Rattle.sys_model.proofs.Enclose.{pair_row, row_parts_cover, enclosed, unique}
 use Rattle.std.proofs.Common.{◌^◌, ◌-◌}
 use Rattle.whole_numbers.proofs.Cases.{zero_or_not}

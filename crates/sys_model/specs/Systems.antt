@@ -1,7 +1,7 @@
 -- Systems within words, and the certificate.
 use Rattle.std.specs.Prelude.{ℕ, ℤ, pos, ◌+ℤ◌, ◌-ℤ◌, ◌*ℤ◌, ◌≡◌, ◌≤◌, ◌<◌, ◌*◌, ◌+◌, ◌-◌, ◌^◌, min, unsigned_abs}
 use Rattle.whole_numbers.specs.Sum.{sum_to, total_to, unit}
-use Rattle.whole_numbers.specs.Words.{Word, Holds, point_word, word_sub, word_scale, sum_words, size, word_shift}
+use Rattle.whole_numbers.specs.Intervals.{Interval, Holds, point_interval, interval_sub, interval_scale, sum_intervals, size, interval_shift}
 use Rattle.whole_numbers.specs.Quotients.{up_over}
 
 -- the sum of row i of a table by a vector
@@ -29,13 +29,21 @@ pub record Fractions : Type 0 where
 
 -- the words of a table and of a right side
 pub record Table : Type 0 where
-  pub entry : ℕ → ℕ → Word
-  pub right : ℕ → Word
+  pub entry : ℕ → ℕ → Interval
+  pub right : ℕ → Interval
 
 pub record LiesIn (n : ℕ) (t : Table) (S : System) : Type 0 where
   pub some : 0 < S.q
   pub entries : (i j : ℕ) → i < n → j < n → Holds (t.entry i j) (S.a i j) S.q
   pub rights : (i : ℕ) → i < n → Holds (t.right i) (S.c i) S.q
+
+-- a system times 10^18: stack words hold its fractions
+abbrev pub stack_system : System → System
+stack_system S = record { q = S.q; a = λ i j. S.a i j *ℤ pos (10 ^ 18); c = λ i. S.c i *ℤ pos (10 ^ 18) }
+
+-- the system lies in the stack words of n rows
+abbrev pub LiesInStack : ℕ → Table → System → Type 0
+LiesInStack n t S = LiesIn n t (stack_system S)
 
 abbrev pub residual : ℕ → System → Fractions → ℕ → ℤ
 residual n S v i = row_by n S.a i v.x -ℤ S.c i *ℤ pos v.s
@@ -45,22 +53,22 @@ pub record Solves (n : ℕ) (S : System) (v : Fractions) : Type 0 where
   pub rows : (i : ℕ) → i < n → residual n S v i ≡ pos 0
 
 -- ---- the certificate of a pilot table r with 2^(g + 60), at the vector y
-abbrev pub defect_word : ℕ → ℕ → (ℕ → ℕ → ℤ) → Table → ℕ → ℕ → Word
-defect_word n p r t i j = word_sub (point_word (unit i (pos p) j)) (sum_words n (λ k. word_scale (r i k) (t.entry k j)))
+abbrev pub defect_interval : ℕ → ℕ → (ℕ → ℕ → ℤ) → Table → ℕ → ℕ → Interval
+defect_interval n p r t i j = interval_sub (point_interval (unit i (pos p) j)) (sum_intervals n (λ k. interval_scale (r i k) (t.entry k j)))
 
 abbrev pub defect_size : ℕ → ℕ → (ℕ → ℕ → ℤ) → Table → ℕ → ℕ → ℕ
-defect_size n p r t i j = size (defect_word n p r t i j)
+defect_size n p r t i j = size (defect_interval n p r t i j)
 
 -- B_i
 abbrev pub row_parts : ℕ → ℕ → (ℕ → ℕ → ℤ) → Table → ℕ → ℕ
 row_parts n g r t i = up_over (total_to n (λ j. min (defect_size n (2 ^ (g + 60)) r t i j) (2 ^ (g + 60)))) (2 ^ (g + 30))
 
-abbrev pub left_word : ℕ → Table → (ℕ → ℤ) → ℕ → Word
-left_word n t y i = word_sub (t.right i) (sum_words n (λ j. word_scale (y j) (t.entry i j)))
+abbrev pub residual_interval : ℕ → Table → (ℕ → ℤ) → ℕ → Interval
+residual_interval n t y i = interval_sub (t.right i) (sum_intervals n (λ j. interval_scale (y j) (t.entry i j)))
 
 -- M_i
 abbrev pub row_error : ℕ → ℕ → ℕ → (ℕ → ℕ → ℤ) → Table → (ℕ → ℤ) → ℕ → ℕ
-row_error n g h r t y i = up_over (size (sum_words n (λ k. word_scale (r i k) (word_shift h (left_word n t y k))))) (2 ^ (g + 60 - h))
+row_error n g h r t y i = up_over (size (sum_intervals n (λ k. interval_scale (r i k) (interval_shift h (residual_interval n t y k))))) (2 ^ (g + 60 - h))
 
 pub record Passes (n g h : ℕ) (r : ℕ → ℕ → ℤ) (t : Table) (y : ℕ → ℤ) (B M : ℕ) : Type 0 where
   pub shift : h ≤ 60
@@ -75,7 +83,7 @@ rho B M = up_over (M * 2 ^ 30) (2 ^ 30 - B)
 abbrev pub radius : ℕ → ℕ → ℕ → (ℕ → ℕ → ℤ) → Table → (ℕ → ℤ) → ℕ → ℕ → ℕ → ℕ
 radius n g h r t y B M i = row_error n g h r t y i + up_over (row_parts n g r t i * rho B M) (2 ^ 30)
 
-abbrev pub around : ℤ → ℕ → Word
+abbrev pub around : ℤ → ℕ → Interval
 around y w = record { lo = y -ℤ pos w; hi = y +ℤ pos w }
 
 -- what y leaves of the right side in row k

@@ -11,7 +11,3 @@ zero_or_not (negsuc n) = inr (λ e. omega (arith, ints))
 -- a number below j + 1 is below j, or j
 pub last_or_before : (k j : ℕ) → k < j + 1 → (k < j) ⊎ (k ≡ j)
 last_or_before k j h = elim (dec_lt k j) [ yes p ↦ inl p | no p ↦ inr (omega arith) ]
-
--- two numbers are one where neither is below the other
-pub neither_less : (j k : ℕ) → (j < k → ⊥) → (k < j → ⊥) → j ≡ k
-neither_less j k a b = elim (dec_lt j k) [ yes l ↦ absurd (a l) | no l ↦ elim (dec_lt k j) [ yes r ↦ absurd (b r) | no r ↦ omega arith ] ]

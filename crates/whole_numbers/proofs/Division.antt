@@ -7,7 +7,7 @@ use Rattle.std.proofs.Math.Nat.{pow-le-pow_right}
 use Rattle.std.proofs.lemmas.Int.{ints}
 use Rattle.whole_numbers.specs.Quotients.{floor_over, ceil_over}
 use Rattle.whole_numbers.proofs.Ring.{ring, less_from_product, le_from_product}
-use Rattle.whole_numbers.proofs.WordLaws.{floor_over_le, lt-floor_over, two_pow_above, le-ceil_over}
+use Rattle.whole_numbers.proofs.IntervalLaws.{floor_over_le, lt-floor_over, two_pow_above, le-ceil_over}
 
 -- a number is the quotient rounded down if its product is at most z and the next one's is not
 pub floor_over_is : (z : ℤ) (m : ℕ) (f : ℤ) → 0 < m → (f *ℤ pos m) ≤ℤ z → z <ℤ (f *ℤ pos m +ℤ pos m) → floor_over z m ≡ f

@@ -2,9 +2,9 @@
 use Rattle.std.proofs.Common.{◌≡◌, ℕ, ℤ, pos, ◌+ℤ◌, ◌*ℤ◌, ◌<◌, ◌*◌, arith, ap, ◌∙◌, sym}
 use Rattle.std.proofs.Math.IntN.{◌-ℤ◌}
 use Rattle.std.proofs.lemmas.Int.{ints}
-use Rattle.whole_numbers.specs.Words.{Word, Holds, word_add, word_sub}
+use Rattle.whole_numbers.specs.Intervals.{Interval, Holds, interval_add, interval_sub}
 use Rattle.whole_numbers.proofs.Ring.{*ℤ_assoc, *ℤ_left_comm, *ℤ_right_comm, mul_mono_pos, le_from_product}
-use Rattle.whole_numbers.proofs.WordLaws.{holds_add, holds_sub}
+use Rattle.whole_numbers.proofs.IntervalLaws.{holds_add, holds_sub}
 
 -- products with three naturals are equal where those of the naturals are
 pub equal_thrice : (m : ℤ) (a b c d e f : ℕ) → (a * b) * c ≡ (d * e) * f → ((m *ℤ pos a) *ℤ pos b) *ℤ pos c ≡ ((m *ℤ pos d) *ℤ pos e) *ℤ pos f
@@ -23,25 +23,25 @@ same_from_product a b k some h =
     omega (arith, ints)
 
 -- a word that holds a fraction holds each fraction equal to it
-pub holds_same : (w : Word) (x y : ℤ) (q p : ℕ) → 0 < q → x *ℤ pos p ≡ y *ℤ pos q → Holds w x q → Holds w y p
+pub holds_same : (w : Interval) (x y : ℤ) (q p : ℕ) → 0 < q → x *ℤ pos p ≡ y *ℤ pos q → Holds w x q → Holds w y p
 holds_same w x y q p some same h = record {
   above = le_from_product (w.lo *ℤ pos p) y q some (rw (*ℤ_right_comm w.lo (pos p) (pos q), ← same) (mul_mono_pos _ _ p h.above));
   below = le_from_product y (w.hi *ℤ pos p) q some (rw (*ℤ_right_comm w.hi (pos p) (pos q), ← same) (mul_mono_pos _ _ p h.below));
 }
 
 -- the fraction over p times its denominator
-pub holds_times : (w : Word) (x : ℤ) (q p : ℕ) → Holds w x q → Holds w (x *ℤ pos p) (q * p)
+pub holds_times : (w : Interval) (x : ℤ) (q p : ℕ) → Holds w x q → Holds w (x *ℤ pos p) (q * p)
 holds_times w x q p h =
     let a = mul_mono_pos _ _ p h.above in
     let b = mul_mono_pos _ _ p h.below in
     record { above = omega (arith, ints, a, *ℤ_assoc w.lo (pos q) (pos p)); below = omega (arith, ints, b, *ℤ_assoc w.hi (pos q) (pos p)) }
 
-holds_flipped : (w : Word) (y : ℤ) (q p : ℕ) → Holds w y p → Holds w (y *ℤ pos q) (q * p)
+holds_flipped : (w : Interval) (y : ℤ) (q p : ℕ) → Holds w y p → Holds w (y *ℤ pos q) (q * p)
 holds_flipped w y q p h = let m = holds_times w y p q h in let e : p * q ≡ q * p = omega arith in rw (← e) m
 
 -- sums and differences of fractions with different denominators
-pub holds_sum_of : (w v : Word) (x y : ℤ) (q p : ℕ) → Holds w x q → Holds v y p → Holds (word_add w v) (x *ℤ pos p +ℤ y *ℤ pos q) (q * p)
+pub holds_sum_of : (w v : Interval) (x y : ℤ) (q p : ℕ) → Holds w x q → Holds v y p → Holds (interval_add w v) (x *ℤ pos p +ℤ y *ℤ pos q) (q * p)
 holds_sum_of w v x y q p h k = holds_add w v (x *ℤ pos p) (y *ℤ pos q) (q * p) (holds_times w x q p h) (holds_flipped v y q p k)
 
-pub holds_difference_of : (w v : Word) (x y : ℤ) (q p : ℕ) → Holds w x q → Holds v y p → Holds (word_sub w v) (x *ℤ pos p -ℤ y *ℤ pos q) (q * p)
+pub holds_difference_of : (w v : Interval) (x y : ℤ) (q p : ℕ) → Holds w x q → Holds v y p → Holds (interval_sub w v) (x *ℤ pos p -ℤ y *ℤ pos q) (q * p)
 holds_difference_of w v x y q p h k = holds_sub w v (x *ℤ pos p) (y *ℤ pos q) (q * p) (holds_times w x q p h) (holds_flipped v y q p k)

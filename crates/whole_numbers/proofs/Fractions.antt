@@ -3,14 +3,14 @@ use Rattle.std.proofs.Common.{◌≡◌, ℕ, suc, ℤ, pos, negsuc, ◌*ℤ◌,
 use Rattle.std.specs.Int.{int_min, int_max}
 use Rattle.std.proofs.lemmas.Int.{ints, clamps, by_lt_z}
 use Rattle.std.proofs.Math.Nat.{mul-le-mul_left, mul-le-mul_right}
-use Rattle.whole_numbers.specs.Words.{Word, Holds, word_mul, least_of, greatest_of}
+use Rattle.whole_numbers.specs.Intervals.{Interval, Holds, interval_mul, least_of, greatest_of}
 use Rattle.whole_numbers.specs.Quotients.{floor_over}
 use Rattle.whole_numbers.proofs.Ring.{ring, *ℤ_assoc, mul_mono_pos}
 use Rattle.whole_numbers.proofs.EqualFractions.{products_apart}
-use Rattle.whole_numbers.proofs.Products.{word_mul_contains}
+use Rattle.whole_numbers.proofs.Products.{interval_mul_contains}
 
 -- the word of w with each end times k
-abbrev times_word : Word → ℕ → Word
+abbrev times_word : Interval → ℕ → Interval
 times_word w k = record { lo = w.lo *ℤ pos k; hi = w.hi *ℤ pos k }
 
 min_times : (a b : ℤ) (k : ℕ) → int_min (a *ℤ pos k) (b *ℤ pos k) ≡ int_min a b *ℤ pos k
@@ -31,9 +31,9 @@ greatest_times : (a b c d : ℤ) (k : ℕ) → greatest_of (a *ℤ pos k) (b *�
 unfolding greatest_of
 greatest_times a b c d k = rw (max_times a b k, max_times c d k) (max_times (int_max a b) (int_max c d) k)
 
-pub holds_mul : (w v : Word) (x y : ℤ) (q p : ℕ) → Holds w x q → Holds v y p → Holds (word_mul w v) (x *ℤ y) (q * p)
+pub holds_mul : (w v : Interval) (x y : ℤ) (q p : ℕ) → Holds w x q → Holds v y p → Holds (interval_mul w v) (x *ℤ y) (q * p)
 holds_mul w v x y q p h k =
-    let m = word_mul_contains (times_word w q) (times_word v p) x y (record { above = h.above; below = h.below }) (record { above = k.above; below = k.below }) in
+    let m = interval_mul_contains (times_word w q) (times_word v p) x y (record { above = h.above; below = h.below }) (record { above = k.above; below = k.below }) in
     let a = products_apart w.lo v.lo q p in
     let b = products_apart w.lo v.hi q p in
     let c = products_apart w.hi v.lo q p in

@@ -10,4 +10,5 @@ pub mod Ring
 pub mod Scaled
 pub mod Sizes
 pub mod Sums
-pub mod WordLaws
+pub mod IntervalLaws
+pub mod ListLaws

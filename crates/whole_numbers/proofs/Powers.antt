@@ -9,8 +9,8 @@ use Rattle.whole_numbers.proofs.Division.{floor_over_is, ceil_over_is}
 pub ten_le : (a b : ℕ) → a ≤ b → 10 ^ a ≤ 10 ^ b
 ten_le a b h = pow-le-pow_right {n = 10} (omega arith) h
 
-pub ten_above : (k : ℕ) → 0 < 10 ^ k
-ten_above k = one-le-pow k 10 (omega arith)
+pub ten_pow_above : (k : ℕ) → 0 < 10 ^ k
+ten_pow_above k = one-le-pow k 10 (omega arith)
 
 pub ten_fits : (k : ℕ) → k ≤ 38 → FitsSigned w128 (pos (10 ^ k))
 ten_fits k h = let t = ten_le k 38 h in fits_signed_from_abs w128 (pos (10 ^ k)) (omega arith)
@@ -30,20 +30,20 @@ quotient_most : (a p l : ℕ) → a ≤ l / p → a * p ≤ l
 quotient_most a p l q = let t = mul-le-mul_right p q in omega (arith, t)
 
 pub raised_more : (m : ℤ) (k : ℕ) → 10 ^ 37 / 10 ^ k < unsigned_abs m → unsigned_abs (m *ℤ pos (10 ^ k)) ≤ 10 ^ 37 → ⊥
-raised_more m k q s = quotient_more (unsigned_abs m) (10 ^ k) (10 ^ 37) (ten_above k) q (omega (arith, unsigned_abs-mul m (pos (10 ^ k))))
+raised_more m k q s = quotient_more (unsigned_abs m) (10 ^ k) (10 ^ 37) (ten_pow_above k) q (omega (arith, unsigned_abs-mul m (pos (10 ^ k))))
 
 pub raised_most : (m : ℤ) (k : ℕ) → unsigned_abs m ≤ 10 ^ 37 / 10 ^ k → unsigned_abs (m *ℤ pos (10 ^ k)) ≤ 10 ^ 37
 raised_most m k q = let t = quotient_most (unsigned_abs m) (10 ^ k) (10 ^ 37) q in omega (arith, unsigned_abs-mul m (pos (10 ^ k)))
 
 -- beyond 10^38 each number of 128 bits has the quotient 0 or one of size 1
 pub floor_far_up : (z : ℤ) (k : ℕ) → FitsSigned w128 z → 38 < k → pos 0 ≤ℤ z → pos 0 ≡ floor_over z (10 ^ k)
-floor_far_up z k h l s = let t = ten_le 39 k l in sym (floor_over_is z (10 ^ k) (pos 0) (ten_above k) (omega (arith, ints)) (omega (arith, ints)))
+floor_far_up z k h l s = let t = ten_le 39 k l in sym (floor_over_is z (10 ^ k) (pos 0) (ten_pow_above k) (omega (arith, ints)) (omega (arith, ints)))
 
 pub floor_far_down : (z : ℤ) (k : ℕ) → FitsSigned w128 z → 38 < k → z <ℤ pos 0 → negsuc 0 ≡ floor_over z (10 ^ k)
-floor_far_down z k h l s = let t = ten_le 39 k l in sym (floor_over_is z (10 ^ k) (negsuc 0) (ten_above k) (omega (arith, ints)) (omega (arith, ints)))
+floor_far_down z k h l s = let t = ten_le 39 k l in sym (floor_over_is z (10 ^ k) (negsuc 0) (ten_pow_above k) (omega (arith, ints)) (omega (arith, ints)))
 
 pub ceil_far_up : (z : ℤ) (k : ℕ) → FitsSigned w128 z → 38 < k → pos 0 <ℤ z → pos 1 ≡ ceil_over z (10 ^ k)
-ceil_far_up z k h l s = let t = ten_le 39 k l in sym (ceil_over_is z (10 ^ k) (pos 1) (ten_above k) (omega (arith, ints)) (omega (arith, ints)))
+ceil_far_up z k h l s = let t = ten_le 39 k l in sym (ceil_over_is z (10 ^ k) (pos 1) (ten_pow_above k) (omega (arith, ints)) (omega (arith, ints)))
 
 pub ceil_far_down : (z : ℤ) (k : ℕ) → FitsSigned w128 z → 38 < k → z ≤ℤ pos 0 → pos 0 ≡ ceil_over z (10 ^ k)
-ceil_far_down z k h l s = let t = ten_le 39 k l in sym (ceil_over_is z (10 ^ k) (pos 0) (ten_above k) (omega (arith, ints)) (omega (arith, ints)))
+ceil_far_down z k h l s = let t = ten_le 39 k l in sym (ceil_over_is z (10 ^ k) (pos 0) (ten_pow_above k) (omega (arith, ints)) (omega (arith, ints)))

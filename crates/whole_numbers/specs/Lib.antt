@@ -1,5 +1,6 @@
 pub mod Least
+pub mod Lists
 pub mod Quotients
 pub mod Scaling
 pub mod Sum
-pub mod Words
+pub mod Intervals

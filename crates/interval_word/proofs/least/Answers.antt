@@ -1,6 +1,6 @@
 use Rattle.std.proofs.Common.{arith}
 use Rattle.std.proofs.lemmas.Int.{to_z-of_z}
-use Rattle.whole_numbers.specs.Words.{least_of}
+use Rattle.whole_numbers.specs.Intervals.{least_of}
 use Rattle.interval_word.proofs.least.Goals as goal
 
 pub returns-clause-value : goal.returns-clause-value

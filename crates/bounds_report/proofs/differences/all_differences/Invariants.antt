@@ -1,6 +1,6 @@
 use Rattle.std.proofs.Common.{◌≡◌, ◌+◌, ◌^◌}
 use Rattle.whole_numbers.specs.Sum.{total_to}
-use Rattle.whole_numbers.specs.Words.{size}
+use Rattle.whole_numbers.specs.Intervals.{size}
 use Rattle.bounds_report.specs.Differences.{difference_of, AreDifferencesOf}
 use Rattle.bounds_report.proofs.differences.all_differences.Given as goal
 

@@ -1,7 +1,7 @@
 use Rattle.std.proofs.Common.{arith, ◌≡◌, length}
 use Rattle.equil.specs.Tables.{table_of, exponent_of}
-use Rattle.equil.proofs.RowLaws.{each_push}
 use Rattle.bounds_report.specs.Residuals.{numbers_from}
+use Rattle.whole_numbers.proofs.ListLaws.{each_push}
 use Rattle.bounds_report.proofs.printing.all_numbers.Goals as goal
 
 pub loop-i-preserved : goal.loop-i-preserved

@@ -1,6 +1,6 @@
 use Rattle.std.proofs.Common.{◌≡◌, ◌≤◌, ◌*◌, ◌^◌}
 use Rattle.whole_numbers.specs.Sum.{total_to}
-use Rattle.whole_numbers.specs.Words.{size}
+use Rattle.whole_numbers.specs.Intervals.{size}
 use Rattle.equil.specs.Tables.{table_of}
 use Rattle.bounds_report.specs.Differences.{word_at}
 use Rattle.bounds_report.specs.Residuals.{row_sum}

@@ -2,8 +2,9 @@ use Rattle.std.proofs.Common.{ℤ, pos, negsuc, ◌≤◌, ◌*◌, ◌^◌, to_
 use Rattle.std.specs.Int.{w128}
 use Rattle.std.proofs.Math.Nat.{mul-le-mul_right}
 use Rattle.std.proofs.lemmas.Int.{ints, unsigned_abs-mul}
-use Rattle.decimal_e.specs.Decimals.{Decimal, IsCanonicalOf, IsBounded, ten_above, ten_below}
+use Rattle.decimal_e.specs.Decimals.{Decimal, IsCanonicalOf, IsBounded}
 use Rattle.decimal_e.specs.Fractions.{IsAtMost}
+use Rattle.whole_numbers.specs.Scaling.{ten_above, ten_below}
 use Rattle.bounds_report.proofs.tests.apriori.Goals as goal
 
 at_most : (m : ℤ) (d : Decimal) → unsigned_abs m ≤ 10 ^ 16 → IsCanonicalOf d (record { mant = m; exp = negsuc 3 }) → IsAtMost (10 ^ 12) d

@@ -1,5 +1,5 @@
 use Rattle.std.proofs.Common.{◌∙◌, ◌<◌, arith, subst, sym}
-use Rattle.chol_factor.specs.Factor.{factor_word, middles, IsColumn}
+use Rattle.chol_factor.specs.Factor.{factor_word, midpoints, IsColumn}
 use Rattle.chol_factor.specs.Making.{AgreeBefore, IsStuck}
 use Rattle.chol_factor.proofs.ColumnLaws.{IsRest, column_of, stuck_of, columns_more, pivot_at, positive_at}
 use Rattle.chol_factor.proofs.making.factor.Goals as goal
@@ -7,7 +7,7 @@ use Rattle.chol_factor.proofs.making.factor.Goals as goal
 pub returns-then-not-make_column-clause-refused : goal.returns-then-not-make_column-clause-refused
 returns-then-not-make_column-clause-refused g c =
     let n = c.args.w.now.a.size in
-    let m = middles c.args.w.now.a in
+    let m = midpoints c.args.w.now.a in
     let old = factor_word c.loop-row.table in
     let j = c.loop-row.row in
     let row : j < n = omega (arith, c.loop-row.invariant.same, c.in-Ok.ensures.size) in
@@ -17,7 +17,7 @@ returns-then-not-make_column-clause-refused g c =
 pub loop-row-preserved : goal.loop-row-preserved
 loop-row-preserved g c =
     let n = c.args.w.now.a.size in
-    let m = middles c.args.w.now.a in
+    let m = midpoints c.args.w.now.a in
     let old = factor_word c.loop-row.table in
     let new = factor_word c.make_column.new.f in
     let j = c.loop-row.row in
@@ -33,7 +33,7 @@ loop-row-preserved g c =
     }
 
 pub finished-requires : goal.finished-requires
-finished-requires g c = λ i h. positive_at c.args.w.now.a.size (middles c.args.w.now.a) (factor_word c.loop-row.table) i (c.loop-row.invariant.made i (omega (arith, c.loop-row.invariant.same, c.in-Ok.ensures.size)))
+finished-requires g c = λ i h. positive_at c.args.w.now.a.size (midpoints c.args.w.now.a) (factor_word c.loop-row.table) i (c.loop-row.invariant.made i (omega (arith, c.loop-row.invariant.same, c.in-Ok.ensures.size)))
 
 pub returns-clause-columns : goal.returns-clause-columns
-returns-clause-columns g c = λ j h. subst (λ f. IsColumn c.args.w.now.a.size (middles c.args.w.now.a) (factor_word f) j) (sym c.finished.ensures) (c.loop-row.invariant.made j (omega (arith, c.loop-row.invariant.same, c.in-Ok.ensures.size)))
+returns-clause-columns g c = λ j h. subst (λ f. IsColumn c.args.w.now.a.size (midpoints c.args.w.now.a) (factor_word f) j) (sym c.finished.ensures) (c.loop-row.invariant.made j (omega (arith, c.loop-row.invariant.same, c.in-Ok.ensures.size)))

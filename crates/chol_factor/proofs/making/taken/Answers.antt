@@ -6,7 +6,7 @@ use Rattle.chol_factor.proofs.making.taken.Goals as goal
 
 pub returns-clause-value : goal.returns-clause-value
 returns-clause-value c =
-    let fits : FitsSigned w128 c.parts.result = omega (arith, ints) in
-    to_z-of_z w128 c.parts.result fits
-    ∙ c.parts.ensures.value
+    let fits : FitsSigned w128 c.fixed_products.result = omega (arith, ints) in
+    to_z-of_z w128 c.fixed_products.result fits
+    ∙ c.fixed_products.ensures.value
     ∙ taken_is c.args.f.now c.args.i c.args.j c.row_before.result.now c.row_before-2.result.now c.row_before.ensures.len c.row_before.ensures.words c.row_before-2.ensures.words

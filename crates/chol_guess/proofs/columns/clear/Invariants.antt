@@ -1,5 +1,5 @@
 use Rattle.std.proofs.Common.{◌≡◌, ◌<◌, ℕ, pos}
-use Rattle.chol_factor.specs.Squares.{at}
+use Rattle.whole_numbers.specs.Lists.{at}
 use Rattle.chol_guess.proofs.columns.clear.Given as goal
 
 abbrev pub invariant-loop-k : goal.invariant-loop-k

@@ -1,7 +1,7 @@
 use Rattle.std.proofs.Common.{arith}
 use Rattle.std.proofs.lemmas.Bool.{OnFalse_at, OnFalse_from}
 use Rattle.chol_factor.specs.Factor.{factor_word}
-use Rattle.chol_factor.specs.Squares.{at}
+use Rattle.whole_numbers.specs.Lists.{at}
 use Rattle.chol_guess.proofs.Alone.{column_stops}
 use Rattle.chol_guess.proofs.columns.column.Goals as goal
 

@@ -2,7 +2,7 @@ use Rattle.std.proofs.Common.{◌≡◌, ◌-◌, suc, arith, rules, subst, Fits
 use Rattle.std.specs.Int.{w64}
 use Rattle.std.proofs.lemmas.Int.{to_z-of_z}
 use Rattle.chol_factor.specs.Factor.{factor_word}
-use Rattle.chol_factor.specs.Squares.{at}
+use Rattle.whole_numbers.specs.Lists.{at}
 use Rattle.chol_guess.specs.Rows.{IsDownFrom}
 use Rattle.chol_guess.proofs.Alone.{down_stops}
 use Rattle.chol_guess.proofs.Steps.{down_more}

@@ -2,7 +2,7 @@ use Rattle.std.proofs.Common.{arith, rules, FitsSigned}
 use Rattle.std.specs.Int.{w128}
 use Rattle.std.proofs.lemmas.Int.{to_z-of_z}
 use Rattle.chol_factor.specs.Factor.{factor_word}
-use Rattle.chol_factor.specs.Squares.{at}
+use Rattle.whole_numbers.specs.Lists.{at}
 use Rattle.chol_guess.proofs.Alone.{up_stops}
 use Rattle.chol_guess.proofs.Steps.{cleared_up, up_more}
 use Rattle.chol_guess.proofs.columns.go_up.Goals as goal

@@ -1,5 +1,5 @@
 use Rattle.chol_factor.specs.Factor.{factor_word}
-use Rattle.chol_factor.specs.Squares.{at}
+use Rattle.whole_numbers.specs.Lists.{at}
 use Rattle.chol_guess.specs.Columns.{IsUp}
 use Rattle.chol_guess.proofs.columns.go_up.Given as goal
 

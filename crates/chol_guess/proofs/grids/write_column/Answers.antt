@@ -1,7 +1,7 @@
 use Rattle.std.proofs.Common.{length, refl, arith, rules, FitsSigned}
 use Rattle.std.specs.Int.{w64}
 use Rattle.std.proofs.lemmas.Int.{to_z-of_z}
-use Rattle.chol_factor.specs.Squares.{at}
+use Rattle.whole_numbers.specs.Lists.{at}
 use Rattle.chol_guess.proofs.Written.{written_more}
 use Rattle.chol_guess.proofs.grids.write_column.Goals as goal
 

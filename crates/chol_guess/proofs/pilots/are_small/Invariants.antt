@@ -1,5 +1,5 @@
 use Rattle.std.proofs.Common.{◌≤◌, ◌<◌, ◌^◌, ℕ, unsigned_abs}
-use Rattle.chol_factor.specs.Squares.{at}
+use Rattle.whole_numbers.specs.Lists.{at}
 use Rattle.chol_guess.proofs.pilots.are_small.Given as goal
 
 abbrev pub invariant-loop-k : goal.invariant-loop-k

@@ -1,6 +1,6 @@
 use Rattle.std.proofs.Common.{◌^◌}
 use Rattle.chol_factor.specs.Factor.{factor_word}
-use Rattle.chol_factor.specs.Squares.{AllAtMost}
+use Rattle.whole_numbers.specs.Lists.{AllAtMost}
 use Rattle.chol_guess.specs.Pilots.{IsScale}
 use Rattle.chol_guess.specs.Rows.{FailAbove}
 use Rattle.chol_guess.proofs.scales.greatest_scale.Given as goal

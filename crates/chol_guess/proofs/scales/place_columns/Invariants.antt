@@ -1,6 +1,6 @@
 use Rattle.std.proofs.Common.{◌^◌}
 use Rattle.chol_factor.specs.Factor.{factor_word}
-use Rattle.chol_factor.specs.Squares.{AllAtMost}
+use Rattle.whole_numbers.specs.Lists.{AllAtMost}
 use Rattle.chol_guess.specs.Rows.{PlacesColumns}
 use Rattle.chol_guess.proofs.scales.place_columns.Given as goal
 

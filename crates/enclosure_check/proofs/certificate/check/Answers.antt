@@ -1,7 +1,7 @@
 use Rattle.std.proofs.Common.{slice_index_or}
 use Rattle.std.proofs.lemmas.Result.{IfOk-weaker, IfErr-weaker}
 use Rattle.sys_model.specs.Systems.{Encloses}
-use Rattle.chol_factor.specs.Squares.{at}
+use Rattle.whole_numbers.specs.Lists.{at}
 use Rattle.equil.specs.Tables.{table_of}
 use Rattle.enclosure_check.specs.Answers.{IsCheckRefused}
 use Rattle.enclosure_check.specs.CertificateLists.{HasRadii, IsDefectRefused}

@@ -1,5 +1,5 @@
 use Rattle.std.proofs.Common.{◌≡◌, slice_index}
-use Rattle.enclosure_check.specs.Least.{greatest_to}
+use Rattle.whole_numbers.specs.Least.{greatest_to}
 use Rattle.enclosure_check.proofs.certificate.greatest.Given as goal
 
 abbrev pub invariant-loop-row : goal.invariant-loop-row

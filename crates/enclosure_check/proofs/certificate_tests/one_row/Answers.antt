@@ -1,6 +1,6 @@
 use Rattle.std.proofs.Common.{◌≡◌, ◌≤◌, ◌^◌, inl, subst, sym, arith}
 use Rattle.std.proofs.lemmas.Int.{ints}
-use Rattle.whole_numbers.specs.Words.{size}
+use Rattle.whole_numbers.specs.Intervals.{size}
 use Rattle.enclosure_check.proofs.certificate_tests.one_row.Goals as goal
 
 pub invariant_of-w : goal.invariant_of-w

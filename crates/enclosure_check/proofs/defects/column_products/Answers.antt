@@ -1,8 +1,8 @@
 use Rattle.std.proofs.Common.{arith, rules, ◌∙◌, ap, FitsSigned, w64}
 use Rattle.std.proofs.lemmas.Int.{to_z-of_z}
-use Rattle.whole_numbers.specs.Words.{size}
+use Rattle.whole_numbers.specs.Intervals.{size}
 use Rattle.sym_blocks.specs.Tables.{word}
-use Rattle.chol_factor.specs.Squares.{at}
+use Rattle.whole_numbers.specs.Lists.{at}
 use Rattle.enclosure_check.proofs.DefectLaws.{size_products, column_in_bounds, adds_product}
 use Rattle.enclosure_check.proofs.defects.column_products.Goals as goal
 

@@ -1,6 +1,6 @@
 use Rattle.std.proofs.Common.{◌≡◌}
 use Rattle.sym_blocks.specs.Tables.{word}
-use Rattle.chol_factor.specs.Squares.{at}
+use Rattle.whole_numbers.specs.Lists.{at}
 use Rattle.enclosure_check.specs.Defects.{products_to}
 use Rattle.enclosure_check.proofs.defects.column_products.Given as goal
 

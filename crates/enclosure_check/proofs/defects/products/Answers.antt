@@ -1,7 +1,7 @@
 use Rattle.std.proofs.Common.{arith, rules, ap, length, FitsSigned, w64}
 use Rattle.std.proofs.lemmas.Int.{to_z-of_z}
-use Rattle.whole_numbers.specs.Words.{size}
-use Rattle.chol_factor.specs.Squares.{at}
+use Rattle.whole_numbers.specs.Intervals.{size}
+use Rattle.whole_numbers.specs.Lists.{at}
 use Rattle.enclosure_check.specs.Defects.{word_between}
 use Rattle.enclosure_check.proofs.DefectLaws.{size_products, rows_in_bounds, adds_product}
 use Rattle.enclosure_check.proofs.defects.products.Goals as goal

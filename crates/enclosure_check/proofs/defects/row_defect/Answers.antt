@@ -1,6 +1,6 @@
 use Rattle.std.proofs.Common.{arith, ◌+◌}
 use Rattle.sym_blocks.specs.Tables.{word}
-use Rattle.chol_factor.specs.Squares.{at}
+use Rattle.whole_numbers.specs.Lists.{at}
 use Rattle.equil.specs.Tables.{table_of}
 use Rattle.enclosure_check.specs.Defects.{products_to}
 use Rattle.whole_numbers.proofs.Division.{two_pow_le}

@@ -1,7 +1,7 @@
 use Rattle.std.proofs.Common.{◌≡◌}
 use Rattle.whole_numbers.specs.Sum.{total_to}
 use Rattle.sym_blocks.specs.Tables.{word}
-use Rattle.chol_factor.specs.Squares.{at}
+use Rattle.whole_numbers.specs.Lists.{at}
 use Rattle.enclosure_check.specs.Defects.{products_to, clipped_left}
 use Rattle.enclosure_check.proofs.defects.row_defect.Given as goal
 

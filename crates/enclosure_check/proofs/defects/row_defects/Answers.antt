@@ -1,8 +1,8 @@
 use Rattle.std.proofs.Common.{arith, ◌≡◌}
 use Rattle.equil.specs.Tables.{table_of}
-use Rattle.equil.proofs.RowLaws.{each_push}
 use Rattle.enclosure_check.specs.Certificates.{parts_of}
 use Rattle.enclosure_check.proofs.DefectLaws.{turned_parts}
+use Rattle.whole_numbers.proofs.ListLaws.{each_push}
 use Rattle.enclosure_check.proofs.defects.row_defects.Goals as goal
 
 pub loop-i-preserved : goal.loop-i-preserved

@@ -1,6 +1,6 @@
 use Rattle.std.proofs.Common.{List, ℤ, subst, slice_index_or}
 use Rattle.sys_model.specs.Systems.{Encloses}
-use Rattle.chol_factor.specs.Squares.{at}
+use Rattle.whole_numbers.specs.Lists.{at}
 use Rattle.equil.specs.Tables.{table_of}
 use Rattle.enclosure_check.proofs.enclosing.enclose.Goals as goal
 

@@ -1,5 +1,5 @@
 use Rattle.std.proofs.Common.{arith, ◌+◌}
-use Rattle.enclosure_check.specs.ErrorParts.{part_word}
+use Rattle.enclosure_check.specs.ErrorParts.{part_interval}
 use Rattle.enclosure_check.proofs.ErrorLaws.{parts_small, step_fits}
 use Rattle.enclosure_check.proofs.errors.row_by_words.Goals as goal
 
@@ -8,5 +8,5 @@ add-sum-requires c =
     let r = c.args.row.now in
     let ws = c.args.words.now in
     let s = parts_small r ws (c.loop-k.k + 1) c.requires (omega arith) in
-    let m = step_fits c.loop-k.k (part_word r ws) c.loop-k.sum c.part_word.result c.loop-k.invariant c.part_word.ensures s in
+    let m = step_fits c.loop-k.k (part_interval r ws) c.loop-k.sum c.part_interval.result c.loop-k.invariant c.part_interval.ensures s in
     record { lo_fits = m.0; hi_fits = m.1 }

@@ -1,5 +1,5 @@
 use Rattle.std.proofs.lemmas.Result.{IfOk-weaker}
-use Rattle.chol_factor.specs.Squares.{at}
+use Rattle.whole_numbers.specs.Lists.{at}
 use Rattle.equil.specs.Tables.{table_of}
 use Rattle.enclosure_check.specs.Certificates.{AreErrors}
 use Rattle.enclosure_check.specs.ErrorParts.{AreShiftedErrors}

@@ -1,4 +1,4 @@
-use Rattle.chol_factor.specs.Squares.{at}
+use Rattle.whole_numbers.specs.Lists.{at}
 use Rattle.enclosure_check.specs.Vectors.{AllFitAfter}
 use Rattle.enclosure_check.proofs.vector.fit_after.Given as goal
 

@@ -1,7 +1,7 @@
 use Rattle.std.proofs.Common.{◌≡◌, ◌<◌, ◌^◌, ℕ}
 use Rattle.std.specs.Vec.{vec_len}
 use Rattle.whole_numbers.specs.Quotients.{floor_over}
-use Rattle.chol_factor.specs.Squares.{at}
+use Rattle.whole_numbers.specs.Lists.{at}
 use Rattle.enclosure_check.proofs.vector.floors.Given as goal
 
 abbrev pub invariant-loop-k : goal.invariant-loop-k

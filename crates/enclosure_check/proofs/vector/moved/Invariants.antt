@@ -1,7 +1,7 @@
 use Rattle.std.proofs.Common.{◌≡◌, ◌≤◌, ◌<◌, ◌^◌, ℕ, unsigned_abs}
 use Rattle.std.specs.Vec.{vec_len}
 use Rattle.whole_numbers.specs.Sum.{total_to}
-use Rattle.chol_factor.specs.Squares.{at}
+use Rattle.whole_numbers.specs.Lists.{at}
 use Rattle.enclosure_check.specs.VectorParts.{moved_at}
 use Rattle.enclosure_check.proofs.vector.moved.Given as goal
 

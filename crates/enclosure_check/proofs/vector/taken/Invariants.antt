@@ -1,7 +1,7 @@
 use Rattle.std.proofs.Common.{◌≡◌}
 use Rattle.whole_numbers.specs.Sum.{sum_to}
-use Rattle.enclosure_check.specs.VectorParts.{taken_middle}
+use Rattle.enclosure_check.specs.VectorParts.{taken_midpoint}
 use Rattle.enclosure_check.proofs.vector.taken.Given as goal
 
 abbrev pub invariant-loop-j : goal.invariant-loop-j
-invariant-loop-j g l = l.sum ≡ sum_to l.j (taken_middle l.w.a l.y l.i)
+invariant-loop-j g l = l.sum ≡ sum_to l.j (taken_midpoint l.w.a l.y l.i)

@@ -5,7 +5,8 @@ use Rattle.sym_blocks.specs.Tables.{word}
 use Rattle.equil.specs.Exponents.{IsExponent}
 use Rattle.equil.specs.Rows.{AllInRange}
 use Rattle.equil.specs.Tables.{exponent_of, AreExponents}
-use Rattle.equil.proofs.RowLaws.{each_push, range_push}
+use Rattle.equil.proofs.RowLaws.{range_push}
+use Rattle.whole_numbers.proofs.ListLaws.{each_push}
 use Rattle.equil.proofs.scaling.exponents.Goals as goal
 
 pub loop-i-preserved : goal.loop-i-preserved

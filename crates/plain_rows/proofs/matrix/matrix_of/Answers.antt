@@ -1,7 +1,7 @@
 use Rattle.std.proofs.Common.{◌∙◌, sym, refl, List, ℕ, subst}
 use Rattle.std.proofs.lemmas.Bool.{false≢true}
 use Rattle.std.proofs.lemmas.Slice.Eq.{bytes_eq-Decides}
-use Rattle.plain_rows.specs.Plain.{IsPairBefore, Ascends}
+use Rattle.plain_rows.specs.Plain.{IsPairBefore}
 use Rattle.plain_rows.specs.Blocks.{IsElementLine, matrix_end}
 use Rattle.plain_rows.specs.Lines.{AreLines}
 use Rattle.plain_rows.specs.declared.Element.{Element}
@@ -9,6 +9,7 @@ use Rattle.plain_rows.proofs.MatrixLaws.{one_element_line, no_element_line}
 use Rattle.plain_rows.proofs.Runs.{one_whole_run}
 use Rattle.plain_rows.proofs.matrix.matrix_of.Goals as goal
 use Rattle.plain_rows.proofs.matrix.matrix_of.Goals.{else-eq-via-then-eq+else-pairs_ascend, else-eq-via-else-eq}
+use Rattle.stated_order.specs.Lists.{Ascends}
 
 pub returns-then-pairs_ascend : goal.returns-then-pairs_ascend
 returns-then-pairs_ascend c =

@@ -1,10 +1,11 @@
 use Rattle.std.proofs.Common.{◌≡◌, ◌∙◌, sym, ap, length, vec_len, List, subst, arith}
 use Rattle.std.proofs.lemmas.Bool.{false≢true, eqb-true}
-use Rattle.plain_rows.specs.Plain.{IsNameBefore, Ascends}
+use Rattle.plain_rows.specs.Plain.{IsNameBefore}
 use Rattle.plain_rows.specs.declared.Row.{Row}
 use Rattle.plain_rows.proofs.BlockLaws.{one_blocks, one_joined, joined_as}
 use Rattle.plain_rows.proofs.rows.rows_of.Goals as goal
 use Rattle.plain_rows.proofs.rows.rows_of.Goals.{else-not-is_empty-via-then-not-is_empty+else-names_ascend, else-not-is_empty-via-else-not-is_empty}
+use Rattle.stated_order.specs.Lists.{Ascends}
 
 pub returns-in_default : goal.returns-in_default
 returns-in_default c = λ rows rest h.

@@ -1,5 +1,5 @@
 use Rattle.std.proofs.Common.{arith, ◌+◌, ◌*◌}
-use Rattle.chol_factor.specs.Squares.{at}
+use Rattle.whole_numbers.specs.Lists.{at}
 use Rattle.enclosure_check.specs.Defects.{word_between, products_to, turned_table}
 use Rattle.whole_numbers.proofs.Division.{two_pow_le}
 use Rattle.enclosure_check.proofs.DefectLaws.{total_small, row_parts_is}

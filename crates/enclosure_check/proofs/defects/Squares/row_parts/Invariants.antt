@@ -1,6 +1,6 @@
 use Rattle.std.proofs.Common.{◌≡◌, ◌+◌, ◌*◌}
 use Rattle.whole_numbers.specs.Sum.{total_to}
-use Rattle.chol_factor.specs.Squares.{at}
+use Rattle.whole_numbers.specs.Lists.{at}
 use Rattle.enclosure_check.specs.Defects.{word_between, products_to, clipped_left}
 use Rattle.enclosure_check.proofs.defects.Squares.row_parts.Given as goal
 

@@ -1,5 +1,5 @@
 use Rattle.std.proofs.Common.{◌≡◌, ◌∙◌, ◌+◌, ◌*◌, ◌<◌, ℕ, ap, refl}
-use Rattle.chol_factor.specs.Squares.{at}
+use Rattle.whole_numbers.specs.Lists.{at}
 use Rattle.enclosure_check.specs.Defects.{word_between, products_to}
 use Rattle.enclosure_check.proofs.DefectLaws.{products_same}
 use Rattle.enclosure_check.proofs.defects.Squares.row_products.Goals as goal

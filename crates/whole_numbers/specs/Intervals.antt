@@ -5,47 +5,51 @@ use Rattle.whole_numbers.specs.Sum.{sum_to}
 use Rattle.whole_numbers.specs.Quotients.{floor_over, ceil_over}
 
 -- the whole numbers from lo to hi, and the fractions between them
-pub record Word : Type 0 where
+pub record Interval : Type 0 where
   pub lo : ℤ
   pub hi : ℤ
 
 -- w holds the fraction x / q
-pub record Holds (w : Word) (x : ℤ) (q : ℕ) : Type 0 where
+pub record Holds (w : Interval) (x : ℤ) (q : ℕ) : Type 0 where
   pub above : (w.lo *ℤ pos q) ≤ℤ x
   pub below : x ≤ℤ (w.hi *ℤ pos q)
 
 -- the word of one number
-abbrev pub point_word : ℤ → Word
-point_word v = record { lo = v; hi = v }
+abbrev pub point_interval : ℤ → Interval
+point_interval v = record { lo = v; hi = v }
 
 -- the sums of what two words hold
-abbrev pub word_add : Word → Word → Word
-word_add w v = record { lo = w.lo +ℤ v.lo; hi = w.hi +ℤ v.hi }
+abbrev pub interval_add : Interval → Interval → Interval
+interval_add w v = record { lo = w.lo +ℤ v.lo; hi = w.hi +ℤ v.hi }
 
 -- the differences of what two words hold
-abbrev pub word_sub : Word → Word → Word
-word_sub w v = record { lo = w.lo -ℤ v.hi; hi = w.hi -ℤ v.lo }
+abbrev pub interval_sub : Interval → Interval → Interval
+interval_sub w v = record { lo = w.lo -ℤ v.hi; hi = w.hi -ℤ v.lo }
 
 -- what w holds with the other sign
-abbrev pub word_neg : Word → Word
-word_neg w = record { lo = neg_ℤ w.hi; hi = neg_ℤ w.lo }
+abbrev pub interval_neg : Interval → Interval
+interval_neg w = record { lo = neg_ℤ w.hi; hi = neg_ℤ w.lo }
 
 -- the products of k and what w holds
-abbrev pub word_scale : ℤ → Word → Word
-word_scale (pos k) w = record { lo = pos k *ℤ w.lo; hi = pos k *ℤ w.hi }
-word_scale (negsuc k) w = record { lo = negsuc k *ℤ w.hi; hi = negsuc k *ℤ w.lo }
+abbrev pub interval_scale : ℤ → Interval → Interval
+interval_scale (pos k) w = record { lo = pos k *ℤ w.lo; hi = pos k *ℤ w.hi }
+interval_scale (negsuc k) w = record { lo = negsuc k *ℤ w.hi; hi = negsuc k *ℤ w.lo }
 
 -- the sum of the words f k over the k below n
-abbrev pub sum_words : ℕ → (ℕ → Word) → Word
-sum_words n f = record { lo = sum_to n (λ k. (f k).lo); hi = sum_to n (λ k. (f k).hi) }
+abbrev pub sum_intervals : ℕ → (ℕ → Interval) → Interval
+sum_intervals n f = record { lo = sum_to n (λ k. (f k).lo); hi = sum_to n (λ k. (f k).hi) }
 
 -- the greater size of the ends
-abbrev pub size : Word → ℕ
+abbrev pub size : Interval → ℕ
 size w = max (unsigned_abs w.lo) (unsigned_abs w.hi)
 
+-- half the sum of the ends, rounded down
+abbrev pub midpoint : Interval → ℤ
+midpoint w = floor_over (w.lo +ℤ w.hi) 2
+
 -- the word over 2^h, rounded outward
-abbrev pub word_shift : ℕ → Word → Word
-word_shift h w = record { lo = floor_over w.lo (2 ^ h); hi = ceil_over w.hi (2 ^ h) }
+abbrev pub interval_shift : ℕ → Interval → Interval
+interval_shift h w = record { lo = floor_over w.lo (2 ^ h); hi = ceil_over w.hi (2 ^ h) }
 
 -- the least of four
 unfoldable pub least_of : ℤ → ℤ → ℤ → ℤ → ℤ
@@ -56,19 +60,19 @@ unfoldable pub greatest_of : ℤ → ℤ → ℤ → ℤ → ℤ
 greatest_of a b c d = int_max (int_max a b) (int_max c d)
 
 -- the range of the products of what w holds and what v holds
-abbrev pub word_mul : Word → Word → Word
-word_mul w v = record {
+abbrev pub interval_mul : Interval → Interval → Interval
+interval_mul w v = record {
   lo = least_of (w.lo *ℤ v.lo) (w.lo *ℤ v.hi) (w.hi *ℤ v.lo) (w.hi *ℤ v.hi);
   hi = greatest_of (w.lo *ℤ v.lo) (w.lo *ℤ v.hi) (w.hi *ℤ v.lo) (w.hi *ℤ v.hi);
 }
 
 -- v is in the word
-pub record Within (w : Word) (v : ℤ) : Type 0 where
+pub record Within (w : Interval) (v : ℤ) : Type 0 where
   pub above : w.lo ≤ℤ v
   pub below : v ≤ℤ w.hi
 
 -- p is the least word with each product of a number of w and a number of v
-pub record IsProductRange (w v p : Word) : Type 0 where
+pub record IsProductRange (w v p : Interval) : Type 0 where
   pub contains : (x y : ℤ) → Within w x → Within v y → Within p (x *ℤ y)
   pub least : (x : ℤ) × (y : ℤ) × (Within w x × Within v y × (p.lo ≡ x *ℤ y))
   pub greatest : (x : ℤ) × (y : ℤ) × (Within w x × Within v y × (p.hi ≡ x *ℤ y))

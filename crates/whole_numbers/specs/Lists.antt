@@ -1,5 +1,5 @@
--- Square tables of whole numbers, kept row by row.
-use Rattle.std.specs.Prelude.{◌≤◌, ◌<◌, ◌+◌, ◌*◌, ℕ, ℤ, pos, List, length, slice_index_or, unsigned_abs}
+-- Lists of whole numbers, and square tables kept row by row.
+use Rattle.std.specs.Prelude.{◌≡◌, ◌≤◌, ◌<◌, ◌+◌, ◌*◌, ℕ, ℤ, pos, List, length, slice_index_or, unsigned_abs}
 
 -- number k of the list
 abbrev pub at : List ℤ → ℕ → ℤ
@@ -12,3 +12,7 @@ grid n xs i k = at xs (i * n + k)
 -- each number of the list is at most a in size
 abbrev pub AllAtMost : ℕ → List ℤ → Type 0
 AllAtMost a xs = (k : ℕ) → k < length xs → unsigned_abs (at xs k) ≤ a
+
+-- two functions have the same values below n
+abbrev pub SameBelow : ℕ → (ℕ → ℤ) → (ℕ → ℤ) → Type 0
+SameBelow n u v = (k : ℕ) → k < n → u k ≡ v k

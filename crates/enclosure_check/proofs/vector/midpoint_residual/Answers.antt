@@ -1,8 +1,8 @@
 use Rattle.std.proofs.Common.{arith, ◌^◌, ◌≤◌, unsigned_abs}
 use Rattle.std.proofs.lemmas.Int.{ints}
-use Rattle.whole_numbers.specs.Words.{size}
+use Rattle.whole_numbers.specs.Intervals.{size}
 use Rattle.enclosure_check.proofs.VectorLaws.{middle_small}
-use Rattle.enclosure_check.proofs.vector.middle_left.Goals as goal
+use Rattle.enclosure_check.proofs.vector.midpoint_residual.Goals as goal
 
 pub returns-clause-bound : goal.returns-clause-bound
 returns-clause-bound g c =

@@ -1,7 +1,7 @@
 use Rattle.std.proofs.Common.{arith, ◌^◌, ◌≤◌}
-use Rattle.whole_numbers.specs.Words.{size}
+use Rattle.whole_numbers.specs.Intervals.{size}
 use Rattle.whole_numbers.proofs.Sizes.{size_sub}
-use Rattle.enclosure_check.proofs.errors.left_word.Goals as goal
+use Rattle.enclosure_check.proofs.errors.residual_interval.Goals as goal
 
 pub returns-clause-bound : goal.returns-clause-bound
 returns-clause-bound g c =

@@ -1,9 +1,9 @@
 use Rattle.std.proofs.Common.{rules, FitsSigned}
 use Rattle.std.specs.Int.{w128}
 use Rattle.std.proofs.lemmas.Int.{to_z-of_z}
-use Rattle.chol_factor.specs.Squares.{at}
+use Rattle.whole_numbers.specs.Lists.{at}
 use Rattle.enclosure_check.proofs.ErrorLaws.{taken_small}
-use Rattle.enclosure_check.proofs.errors.taken_word.Goals as goal
+use Rattle.enclosure_check.proofs.errors.taken_interval.Goals as goal
 
 pub mul_small-requires : goal.mul_small-requires
 mul_small-requires g c =
