@@ -6,10 +6,11 @@ mod dec;
 mod digits;
 mod read;
 mod scale;
+mod sizes;
 
 pub use dec::{Dec, one_canonical, one_form};
 pub use read::{DecFault, one_answer, one_numeral, read_dec};
-pub use scale::{ceil_at, floor_at, holds_value};
+pub use scale::{ceil_at, floor_at, holds_value, interval_at};
 
 #[cfg(test)]
 mod tests;

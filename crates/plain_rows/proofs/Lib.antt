@@ -2,7 +2,6 @@ pub mod Ascending
 pub mod BlockLaws
 pub mod Cutting
 pub mod MatrixLaws
-pub mod Modest
 pub mod Readings
 pub mod Runs
 pub mod SixColumns

@@ -8,11 +8,6 @@ use Rattle.plain_rows.specs.declared.cut.Entry.{Entry}
 abbrev pub IsTheOne : {V : Type 0} → (V → Type 0) → Option V → Type 0
 IsTheOne {V} fact answer = MatchOption answer ((v : V) → fact v → ⊥) (λ v. fact v × ((other : V) → fact other → other ≡ v))
 
--- nothing from low to high passes most in size
-pub record IsWithin (most : ℕ) (low high : ℤ) : Type 0 where
-  pub low_end : neg_ℤ (pos most) ≤ℤ low
-  pub high_end : high ≤ℤ pos most
-
 -- the text is the first line, which begins with the format's name and its version, and then the rest
 pub record IsHeader (text rest : List ℕ) : Type 0 where
   pub more : List ℕ

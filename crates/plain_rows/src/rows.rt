@@ -9,7 +9,6 @@ ghost use Rattle.stated_order.specs.Lists.{Ascends};
 
 use crate::Row;
 use crate::cut::{Entry, after, after_header, entry_of};
-use crate::value::is_modest;
 use std::alloc::{AllocError, Global};
 
 /// The rows at the front of a text, whose lines end so behind their values, and what follows them.
@@ -97,7 +96,7 @@ fn row_from(apriori: &Entry, vector: &Entry) -> Option<Row>
         ((row : Row) → IsJoined apriori.now vector.now row → ⊥)
         (λ row. IsJoined apriori.now vector.now row) }
 {
-    if apriori.parameter == vector.parameter && is_modest(&apriori.value) {
+    if apriori.parameter == vector.parameter && apriori.value.is_modest() {
         Some(Row {
             parameter: apriori.parameter,
             apriori: apriori.value,
