@@ -32,6 +32,7 @@ NO_PIVOT = b"".join(it for it in ONE_STATION.splitlines(True) if not it.startswi
 PIVOT_LINE = b"snxcomb: pivot stack STAX/ABCD/A/1/24:001:00000\n"
 WORDS_LINE = b"snxcomb: words\n"
 DESK_LINE = b"snxcomb: desk\n"
+MEMORY_LINE = b"snxcomb: memory\n"
 LIMIT = 64 * 2**20
 
 
@@ -73,8 +74,8 @@ class Row:
     # the stream whose reader is gone, or that is a full device: "stdout" or "stderr"
     closed: str = ""
     full: str = ""
-    # the most bytes that a file may grow to
-    most: int = 0
+    # the system's limits on the run
+    limits: dict = field(default_factory=dict)
     # whether the run must not have root's leave to open every file
     as_user: bool = False
 
@@ -105,18 +106,24 @@ ROWS = [
     Row("IN has a byte more", SOLVE, 3, b"snxcomb: too long in\n", before={"in": Zeros(LIMIT + 1)}),
     Row("no pivot", SOLVE, 6, PIVOT_LINE, before={"in": NO_PIVOT}),
     Row("no pivot, and a report before", SOLVE, 6, PIVOT_LINE, before={"in": NO_PIVOT, "report": b"before"}),
+    Row("IN's name is empty", ["solve", "", "report"], 3, b"snxcomb: no file \n"),
+    Row("IN's name has other letters", ["solve", "dänisch".encode(), "report"], 3, "snxcomb: no file dänisch\n".encode()),
+    # ---- want of memory
+    Row("no memory for IN", SOLVE, 4, MEMORY_LINE, before={"in": Zeros(LIMIT)}, limits={resource.RLIMIT_AS: LIMIT // 2}),
+    Row("no memory, and nobody reads standard error", SOLVE, 5, before={"in": Zeros(LIMIT)}, limits={resource.RLIMIT_AS: LIMIT // 2}, closed="stderr"),
     # ---- a system that fails: reading
     Row("IN is a folder", SOLVE, 5, DESK_LINE, before={"in": Folder}),
     Row("IN lies below a file", ["solve", "in/in", "report"], 5, DESK_LINE),
     Row("IN has too long a name", ["solve", "i" * 300, "report"], 5, DESK_LINE),
     Row("IN may not be read", SOLVE, 5, DESK_LINE, before={"in": Locked(ONE_STATION)}, as_user=True),
     # ---- a system that fails: writing
+    Row("REPORT's name is empty", ["solve", "in", ""], 5, DESK_LINE),
     Row("REPORT is a folder", SOLVE, 5, DESK_LINE, before={"in": ONE_STATION, "report": Folder}),
     Row("REPORT lies below a file", ["solve", "in", "in/report"], 5, DESK_LINE),
     Row("REPORT's folder isn't there", ["solve", "in", "none/report"], 5, DESK_LINE),
     Row("REPORT may not be written", SOLVE, 5, DESK_LINE, before={"in": ONE_STATION, "report": Locked(b"before")}, as_user=True),
     Row("REPORT is a full device", ["solve", "in", "/dev/full"], 5, DESK_LINE),
-    Row("REPORT may not grow past 10 bytes", SOLVE, 5, DESK_LINE, made={"report": Beginning(REPORT, 10)}, most=10),
+    Row("REPORT may not grow past 10 bytes", SOLVE, 5, DESK_LINE, made={"report": Beginning(REPORT, 10)}, limits={resource.RLIMIT_FSIZE: 10}),
     Row("REPORT is a pipe that nobody reads", ["solve", "in", "/dev/stdout"], 5, DESK_LINE, closed="stdout"),
     # ---- a system that fails: saying
     Row("words, and nobody reads standard error", [], 5, closed="stderr"),
@@ -171,10 +178,10 @@ def run(program, row, folder):
         how = {"user": NOBODY, "group": NOBODY, "extra_groups": []}
         for path in folder.iterdir():
             os.chown(path, NOBODY, NOBODY)
-    if row.most:
-        # a signal that ends who writes past the limit stays ignored, so that the write itself is refused
-        how["preexec_fn"] = lambda: resource.setrlimit(resource.RLIMIT_FSIZE, (row.most, row.most))
+    if row.limits:
+        # the signal that ends who writes past a file's limit stays ignored, so that the write itself is refused
         how["restore_signals"] = False
+        how["preexec_fn"] = lambda: [resource.setrlimit(limit, (most, most)) for limit, most in row.limits.items()]
     try:
         ended = subprocess.run([program, *row.words], cwd=folder, stdin=subprocess.DEVNULL, timeout=SECONDS, **streams, **how)
     finally:
