@@ -1,10 +1,9 @@
 //! Names of parameters.
 
-ghost use Rattle.snx_epoch.specs.Moments.{IsMoment};
-
 use crate::texts::{name_may_stand, padded_2, padded_4, padded_6, plain_soln};
 use snx_epoch::{Epoch, EpochFault, read_epoch};
 use snx_lines::{Line, field};
+use std::marker::Model;
 use thiserror::Error;
 
 /// The name of a parameter. Texts stand at the left, with blanks behind them. Names go by their fields in this order, by bytes.
@@ -20,7 +19,19 @@ pub struct ParamId {
     pub soln: [u8; 4],
     /// The moment of the parameter.
     pub epoch: Epoch,
-    pub ghost moment: { IsMoment epoch },
+}
+
+impl Model for ParamId {
+    ghost use Rattle.snx_epoch.specs.Moments.{IsMoment};
+    ghost use Rattle.param_ids.specs.Plain.{PlainId};
+
+    ghost Value = { PlainId };
+
+    ghost view = { λ id. record { kind = id.kind; code = id.code; point = id.point; soln = id.soln; epoch = id.epoch } };
+
+    ghost invariant = { λ id. IsMoment id.epoch };
+
+    ghost inverse = { λ id. record { kind = id.kind; code = id.code; point = id.point; soln = id.soln; epoch = id.epoch } };
 }
 
 /// Why a row has no name.
