@@ -9,7 +9,7 @@ use Rattle.std.specs.BTreeMap.{BTreeMap, get, Updates, IsEmpty, is_at}
 use Rattle.std.specs.Map.{lookup}
 use Rattle.std.proofs.lemmas.Cmp.{eq_by_cmp_equiv}
 use Rattle.std.specs.FinMap as map
-use Rattle.std.proofs.lemmas.Bool.{both_ways, cond_both}
+use Rattle.std.proofs.lemmas.Bool.{both_ways, cond_both, cond-false}
 use Rattle.std.proofs.lemmas.Cmp.{nat_list_cmp_total}
 use Rattle.param_ids.specs.Tables.{ScaleMap, IsScaleMap, IsScale, scale_in, standard_scales}
 
@@ -65,6 +65,17 @@ at_ok (Err y) P p e = absurd (both_ways true e refl)
 pub shown_after : {X E : Type 0} (r : Result X E) (old new : BTreeMap (List ℕ) ℤ) (kind : List ℕ) (s t : ℤ) → s ≡ t → OnOk r (Updates (slice_cmp nat_cmp) old new kind (Some s)) → is_err r ≡ false → shown new ≡ map.insert (shown old) kind t
 shown_after r old new kind s t same updates fine =
     shown_inserted old new kind t (subst (λ v. Updates (slice_cmp nat_cmp) old new kind (Some v)) same (at_ok r (Updates (slice_cmp nat_cmp) old new kind (Some s)) updates fine))
+
+-- the standard has two types
+pub standard_len : map.len standard_scales ≡ 2
+standard_len =
+    map.len-insert nat_list_cmp_total (map.insert map.empty (codes "RS_RA ") (pos 6)) (codes "RS_DE ") (pos 6) ∙ (cond-false _ _ _ other ∙ (ap (λ n. n + 1) (map.len-insert nat_list_cmp_total map.empty (codes "RS_RA ") (pos 6) ∙ (cond-false _ _ _ none ∙ ap (λ n. n + 1) (map.len-empty (slice_cmp nat_cmp) ℤ)))))
+  where
+    none : map.contains_key (map.empty {X = ℤ} {R = slice_cmp nat_cmp}) (codes "RS_RA ") ≡ false
+    none = ap is_some (map.get-empty (slice_cmp nat_cmp) (codes "RS_RA "))
+
+    other : map.contains_key (map.insert (map.empty {X = ℤ} {R = slice_cmp nat_cmp}) (codes "RS_RA ") (pos 6)) (codes "RS_DE ") ≡ false
+    other = ap is_some (map.get-insert nat_list_cmp_total map.empty (codes "RS_RA ") (pos 6) (codes "RS_DE ") ∙ map.get-empty (slice_cmp nat_cmp) (codes "RS_DE "))
 
 -- the standard holds what a table of scales may
 pub standard_is_scale_map : IsScaleMap standard_scales

@@ -1,6 +1,6 @@
 //! The powers of ten by which parameters are scaled.
 
-ghost use Rattle.std.specs.Prelude.{◌≡◌, ◌<◌, IfOk, OnOk, OnErr, IsNone};
+ghost use Rattle.std.specs.Prelude.{◌≡◌, ◌<◌, ◌+◌, if◌then◌else◌, IfOk, OnOk, OnErr, IsNone};
 ghost use Rattle.std.specs.FinMap as map;
 ghost use Rattle.param_ids.specs.Tables.{scale_in, standard_scales, IsScale};
 
@@ -35,7 +35,8 @@ impl Scales {
     ///
     /// Want of memory.
     pub fn standard(alloc: Global) -> Result<Scales, AllocError>
-        ensures { IfOk result (λ scales. scales ≡ standard_scales) }
+        ensures scales { IfOk result (λ scales. scales ≡ standard_scales) }
+        ensures size { IfOk result (λ scales. map.len scales ≡ 2) }
     {
         let mut table = BTreeMap::new(alloc);
         if table.insert(*b"RS_RA ", 6).is_err() {
@@ -56,6 +57,7 @@ impl Scales {
         requires range { IsScale t }
         requires room { IsNone (map.get self.old kind) → map.len self.old < 64 }
         ensures ok { OnOk result (self.new ≡ map.insert self.old kind t) }
+        ensures size { OnOk result (map.len self.new ≡ (if map.contains_key self.old kind then map.len self.old else map.len self.old + 1)) }
         ensures err { OnErr result (self.new ≡ self.old) }
     {
         if self.table.insert(kind, t).is_err() {

@@ -2,7 +2,7 @@ use Rattle.std.proofs.Common.{◌≡◌, sym, ap, subst, ◌∙◌, pos, refl}
 use Rattle.std.specs.Prelude.{codes}
 use Rattle.std.specs.FinMap as map
 use Rattle.param_ids.specs.Tables.{IsScaleMap, standard_scales}
-use Rattle.param_ids.proofs.Scaled.{shown, shown_empty, shown_after, standard_is_scale_map}
+use Rattle.param_ids.proofs.Scaled.{shown, shown_empty, shown_after, standard_is_scale_map, standard_len}
 use Rattle.param_ids.proofs.scaling.Scales.standard.Goals as goal
 
 made : (c : goal.Else-is_err-2) → shown c.insert-2.new.self ≡ standard_scales
@@ -16,4 +16,4 @@ pub invariant_of-result : goal.invariant_of-result
 invariant_of-result c = subst IsScaleMap (sym (made c)) standard_is_scale_map
 
 pub returns : goal.returns
-returns c = made c
+returns c = record { scales = made c; size = ap map.len (made c) ∙ standard_len }
