@@ -1,7 +1,8 @@
 -- The name of a parameter on a row, and its text.
 use Rattle.std.specs.Prelude.{◌≡◌, ◌⊎◌, ℕ, List, [], ◌∷◌, Some, IsSome, IsNone, Result, Ok, Err}
 use Rattle.std.specs.List.{join_with_byte}
-use Rattle.snx_lines.specs.Lines.{columns, trimmed}
+use Rattle.blanks.specs.Blanks.{trimmed}
+use Rattle.snx_lines.specs.Lines.{columns}
 use Rattle.snx_epoch.specs.Moments.{epoch_in, IsTextOf}
 use Rattle.param_ids.specs.Texts.{kind_text, code_text, point_text, soln_text}
 use Rattle.param_ids.specs.Plain.{PlainId}
