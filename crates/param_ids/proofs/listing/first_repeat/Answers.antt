@@ -1,6 +1,5 @@
-use Rattle.std.proofs.Common.{◌≡◌, sym, subst, ◌∙◌, arith}
-use Rattle.std.specs.declared.cmp.Ordering.TheVariants.{Less}
-use Rattle.param_ids.proofs.Repeats.{repeat_at, rises_step, rising_from_all, RisesTo, not_less, less_from}
+use Rattle.std.proofs.Common.{sym, ◌∙◌, arith}
+use Rattle.param_ids.proofs.Repeats.{repeat_at, rises_step, rising_from_all, not_less, less_from}
 use Rattle.param_ids.proofs.listing.first_repeat.Goals as goal
 
 pub returns-then-ne-clause-some : goal.returns-then-ne-clause-some

@@ -1,4 +1,4 @@
-use Rattle.std.proofs.Common.{◌≡◌, ◌∙◌, sym, subst, ap}
+use Rattle.std.proofs.Common.{◌≡◌, ◌∙◌, sym, subst}
 use Rattle.std.specs.Prelude.{Contains, slice_get, Some}
 use Rattle.param_ids.specs.Order.{IsRising}
 use Rattle.param_ids.proofs.Searched.{present, absent}

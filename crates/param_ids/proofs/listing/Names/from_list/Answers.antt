@@ -1,4 +1,4 @@
-use Rattle.std.proofs.Common.{◌≡◌, ◌<◌, length, subst, sym, arith}
+use Rattle.std.proofs.Common.{◌≡◌, ◌<◌, length, subst, arith}
 use Rattle.param_ids.specs.Order.{IsRising}
 use Rattle.param_ids.specs.Lists.{IsLeastRepeat}
 use Rattle.param_ids.proofs.Repeats.{least_moved, none_moved}
