@@ -1,5 +1,7 @@
-pub mod Zeros
-pub mod Ordered
-pub mod Scaled
 pub mod Derived
-pub mod Merging
+pub mod Ordered
+pub mod Repeats
+pub mod Searched
+pub mod Unions
+pub mod Scaled
+pub mod Zeros

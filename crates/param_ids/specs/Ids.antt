@@ -1,30 +1,35 @@
 -- The name of a parameter on a row, and its text.
-use Rattle.std.specs.Prelude.{◌≡◌, ℕ, true, false, List, [], ◌∷◌, Result, Ok, Err}
+use Rattle.std.specs.Prelude.{◌≡◌, ◌⊎◌, ℕ, List, [], ◌∷◌, Some, IsSome, IsNone, Result, Ok, Err}
 use Rattle.std.specs.List.{join_with_byte}
-use Rattle.snx_lines.specs.Lines.{columns, trimmed}
+use Rattle.blanks.specs.Blanks.{trimmed}
+use Rattle.snx_lines.specs.Lines.{columns}
 use Rattle.snx_epoch.specs.Moments.{epoch_in, IsTextOf}
-use Rattle.param_ids.specs.Texts.{in_2, in_4, in_6, soln_text, has_name}
-use Rattle.param_ids.specs.declared.ids.ParamId.{ParamId}
+use Rattle.param_ids.specs.Texts.{kind_text, code_text, point_text, soln_text}
+use Rattle.param_ids.specs.Plain.{PlainId}
 use Rattle.param_ids.specs.declared.ids.IdFault.{IdFault}
 use Rattle.param_ids.specs.declared.ids.IdFault.TheVariants as faults
 
--- the name that a row writes: its texts, and the epoch of columns 28 to 39
-pub record IsIdIn (row : List ℕ) (id : ParamId) : Type 0 where
-  pub kind : id.kind ≡ in_6 (columns row 8 13)
-  pub code : id.code ≡ in_4 (columns row 15 18)
-  pub point : id.point ≡ in_2 (columns row 20 21)
-  pub soln : id.soln ≡ in_4 (soln_text (columns row 23 26))
-  pub epoch : epoch_in (columns row 28 39) ≡ Ok id.epoch
+-- the name that five texts give: type, code, point, solution and moment
+pub record IsNameOf (kind code point soln epoch : List ℕ) (id : PlainId) : Type 0 where
+  pub kind_is : kind_text kind ≡ Some id.kind
+  pub code_is : code_text code ≡ Some id.code
+  pub point_is : point_text point ≡ Some id.point
+  pub soln_is : soln_text soln ≡ Some id.soln
+  pub epoch_is : epoch_in epoch ≡ Ok id.epoch
 
--- what a row's name reads as: first its texts are tested, then its epoch
-abbrev pub IsReadAs : List ℕ → Result ParamId IdFault → Type 0
-IsReadAs row (Ok id) = (has_name row ≡ true) × IsIdIn row id
-IsReadAs row (Err faults.Field) = has_name row ≡ false
-IsReadAs row (Err (faults.Epoch fault)) = (has_name row ≡ true) × (epoch_in (columns row 28 39) ≡ Err fault)
+-- what five texts name: first the four are tested, then the moment
+abbrev pub IsNamed : List ℕ → List ℕ → List ℕ → List ℕ → List ℕ → Result PlainId IdFault → Type 0
+IsNamed kind code point soln epoch (Ok id) = IsNameOf kind code point soln epoch id
+IsNamed kind code point soln epoch (Err faults.Field) = IsNone (kind_text kind) ⊎ IsNone (code_text code) ⊎ IsNone (point_text point) ⊎ IsNone (soln_text soln)
+IsNamed kind code point soln epoch (Err (faults.Epoch fault)) = IsSome (kind_text kind) × IsSome (code_text code) × IsSome (point_text point) × IsSome (soln_text soln) × (epoch_in epoch ≡ Err fault)
+
+-- the name on a row: columns 8 to 13, 15 to 18, 20 to 21, 23 to 26 and 28 to 39 (SINEX 2.02 format description)
+abbrev pub IsReadAs : List ℕ → Result PlainId IdFault → Type 0
+IsReadAs row result = IsNamed (columns row 8 13) (columns row 15 18) (columns row 20 21) (columns row 23 26) (columns row 28 39) result
 
 -- the text of a name: its texts without blanks and its epoch, joined by `/`
-abbrev pub joined_text : ParamId → List ℕ → List ℕ
+abbrev pub joined_text : PlainId → List ℕ → List ℕ
 joined_text id time = join_with_byte 47 (trimmed id.kind ∷ trimmed id.code ∷ trimmed id.point ∷ trimmed id.soln ∷ time ∷ [])
 
-abbrev pub IsIdText : ParamId → List ℕ → Type 0
+abbrev pub IsIdText : PlainId → List ℕ → Type 0
 IsIdText id text = (time : List ℕ) × IsTextOf id.epoch time × (text ≡ joined_text id time)

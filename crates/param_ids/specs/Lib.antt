@@ -1,3 +1,4 @@
+pub mod Plain
 pub mod Texts
 pub mod Ids
 pub mod Order

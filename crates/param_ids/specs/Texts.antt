@@ -1,8 +1,7 @@
 -- The texts of which a parameter's name is made, normalised.
-use Rattle.std.specs.Prelude.{ℕ, Bool, ◌&&◌, ◌==◌, nat_le, nat_lt, if◌then◌else◌, List, [], ◌∷◌, length}
+use Rattle.std.specs.Prelude.{ℕ, Bool, ◌&&◌, ◌==◌, nat_le, nat_lt, if◌then◌else◌, List, [], ◌∷◌, length, Option, Some, None}
 use Rattle.std.specs.List.{list_all, slice_index_or}
 use Rattle.std.specs.Char.{is_ascii_digit}
-use Rattle.snx_lines.specs.Lines.{columns}
 
 -- the byte of a text at an index, or a blank past its end
 abbrev pub at_or_blank : List ℕ → ℕ → ℕ
@@ -32,13 +31,26 @@ without_zeros (b ∷ []) = b ∷ []
 without_zeros (b ∷ c ∷ rest) = if b == 48 then without_zeros (c ∷ rest) else b ∷ c ∷ rest
 
 -- a solution of digits alone has no leading zeros
-abbrev pub soln_text : List ℕ → List ℕ
-soln_text text = if list_all is_ascii_digit text then without_zeros text else text
+abbrev pub plain_soln : List ℕ → List ℕ
+plain_soln text = if list_all is_ascii_digit text then without_zeros text else text
 
--- the four texts of the name on a row: columns 8 to 13, 15 to 18, 20 to 21 and 23 to 26 (SINEX 2.02 format description).
--- The type is not empty, and each byte may stand in a name
-abbrev pub has_name : List ℕ → Bool
-has_name row =
-    nat_lt 0 (length (columns row 8 13))
-    && is_plain (columns row 8 13) && is_plain (columns row 15 18)
-    && is_plain (columns row 20 21) && is_plain (columns row 23 26)
+-- a text of at most n bytes, each of which a name may have
+abbrev pub fits : ℕ → List ℕ → Bool
+fits n text = nat_le (length text) n && is_plain text
+
+-- what a text without blanks at its ends is in a name: its type, which is not empty, its code, point and solution, and a unit.
+-- None where it is longer than its field or has a byte that a name may not have
+abbrev pub kind_text : List ℕ → Option (List ℕ)
+kind_text text = if nat_lt 0 (length text) && fits 6 text then Some (in_6 text) else None
+
+abbrev pub code_text : List ℕ → Option (List ℕ)
+code_text text = if fits 4 text then Some (in_4 text) else None
+
+abbrev pub point_text : List ℕ → Option (List ℕ)
+point_text text = if fits 2 text then Some (in_2 text) else None
+
+abbrev pub soln_text : List ℕ → Option (List ℕ)
+soln_text text = if fits 4 text then Some (in_4 (plain_soln text)) else None
+
+abbrev pub unit_text : List ℕ → Option (List ℕ)
+unit_text text = if fits 4 text then Some (in_4 text) else None

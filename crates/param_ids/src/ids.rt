@@ -1,10 +1,9 @@
 //! Names of parameters.
 
-ghost use Rattle.snx_epoch.specs.Moments.{IsMoment};
-
-use crate::texts::{name_may_stand, padded_2, padded_4, padded_6, plain_soln};
+use crate::texts::{code_of, kind_of, point_of, soln_of};
 use snx_epoch::{Epoch, EpochFault, read_epoch};
 use snx_lines::{Line, field};
+use std::marker::Model;
 use thiserror::Error;
 
 /// The name of a parameter. Texts stand at the left, with blanks behind them. Names go by their fields in this order, by bytes.
@@ -20,7 +19,19 @@ pub struct ParamId {
     pub soln: [u8; 4],
     /// The moment of the parameter.
     pub epoch: Epoch,
-    pub ghost moment: { IsMoment epoch },
+}
+
+impl Model for ParamId {
+    ghost use Rattle.snx_epoch.specs.Moments.{IsMoment};
+    ghost use Rattle.param_ids.specs.Plain.{PlainId};
+
+    ghost Value = { PlainId };
+
+    ghost view = { λ id. record { kind = id.kind; code = id.code; point = id.point; soln = id.soln; epoch = id.epoch } };
+
+    ghost invariant = { λ id. IsMoment id.epoch };
+
+    ghost inverse = { λ id. record { kind = id.kind; code = id.code; point = id.point; soln = id.soln; epoch = id.epoch } };
 }
 
 /// Why a row has no name.
@@ -36,7 +47,45 @@ pub enum IdFault {
 
 impl ParamId {
     ghost use Rattle.std.specs.Prelude.{◌≡◌};
-    ghost use Rattle.param_ids.specs.Ids.{IsReadAs};
+    ghost use Rattle.param_ids.specs.Ids.{IsNamed, IsReadAs};
+
+    /// The name of a type, a code, a point, a solution and a moment, each a text without blanks at its ends.
+    ///
+    /// # Errors
+    ///
+    /// Field where `kind_of`, `code_of`, `point_of` or `soln_of` gives none, then the fault of the moment.
+    pub fn named(
+        kind: &[u8],
+        code: &[u8],
+        point: &[u8],
+        soln: &[u8],
+        epoch: &[u8],
+    ) -> Result<ParamId, IdFault>
+        ensures { IsNamed kind.now code.now point.now soln.now epoch.now result }
+    {
+        let Some(kind) = kind_of(kind) else {
+            return Err(IdFault::Field);
+        };
+        let Some(code) = code_of(code) else {
+            return Err(IdFault::Field);
+        };
+        let Some(point) = point_of(point) else {
+            return Err(IdFault::Field);
+        };
+        let Some(soln) = soln_of(soln) else {
+            return Err(IdFault::Field);
+        };
+        match read_epoch(epoch) {
+            Ok(epoch) => Ok(ParamId {
+                kind,
+                code,
+                point,
+                soln,
+                epoch,
+            }),
+            Err(fault) => Err(IdFault::Epoch(fault)),
+        }
+    }
 
     /// The name on a row, of columns 8 to 39.
     ///
@@ -46,19 +95,12 @@ impl ParamId {
     pub fn read(line: &Line) -> Result<ParamId, IdFault>
         ensures { IsReadAs line.now.text.now result }
     {
-        if !name_may_stand(line) {
-            return Err(IdFault::Field);
-        }
-        let epoch = match read_epoch(field(line, 28, 39)) {
-            Ok(epoch) => epoch,
-            Err(fault) => return Err(IdFault::Epoch(fault)),
-        };
-        Ok(ParamId {
-            kind: padded_6(field(line, 8, 13)),
-            code: padded_4(field(line, 15, 18)),
-            point: padded_2(field(line, 20, 21)),
-            soln: padded_4(plain_soln(field(line, 23, 26))),
-            epoch,
-        })
+        ParamId::named(
+            field(line, 8, 13),
+            field(line, 15, 18),
+            field(line, 20, 21),
+            field(line, 23, 26),
+            field(line, 28, 39),
+        )
     }
 }

@@ -11,6 +11,7 @@ pub use ids::{IdFault, ParamId};
 pub use listing::{Names, NamesError};
 pub use pushing::push_id;
 pub use scaling::{Scales, scale_of};
+pub use texts::{code_of, kind_of, point_of, soln_of, unit_of};
 
 #[cfg(test)]
 mod tests;

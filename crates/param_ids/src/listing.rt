@@ -1,13 +1,10 @@
 //! Lists of names.
 
-ghost use Rattle.std.specs.Prelude.{◌≡◌, ◌≢◌, ◌+◌, ◌-◌, ◌<◌, ◌≤◌, ℕ, List, length, Some, None, Ok, Err, IfSome, IfNone, IfOk, IfErr, OnErr, slice_get, IsTrue, ◌↔◌};
-ghost use Rattle.std.specs.Bool.{OnTrue, OnFalse};
-ghost use Rattle.std.specs.List.{slice_index_or};
+ghost use Rattle.std.specs.Prelude.{◌≡◌, ◌<◌, ◌≤◌, length, Contains, Some, IfSome, IfNone, IfOk, slice_get, IsTrue, ◌↔◌};
 ghost use Rattle.std.specs.List.Sorted.{IsSorted, IsPermutation, IsBinarySearchResult, IsSearchInRange};
-ghost use Rattle.param_ids.specs.Union.{SameNames, IsUnion, IsMerged};
-ghost use Rattle.param_ids.specs.Order.{id_cmp, SameId, RisesTo, IsRising, IsNames, IsInOrder, IsFirstRepeat};
-ghost use Rattle.param_ids.specs.Lists.{IsListed};
-ghost use Rattle.param_ids.specs.declared.ids.ParamId.{ParamId};
+ghost use Rattle.param_ids.specs.Order.{id_cmp, IsRising};
+ghost use Rattle.param_ids.specs.Lists.{IsListed, IsLeastRepeat};
+ghost use Rattle.param_ids.specs.Union.{IsUnion, IsMerged};
 
 use crate::ids::ParamId;
 use std::alloc::{AllocError, Global};
@@ -24,9 +21,9 @@ pub struct Names {
 
 impl Model for Names {
     ghost use Rattle.std.specs.Prelude.{List};
-    ghost use Rattle.param_ids.specs.declared.ids.ParamId.{ParamId};
+    ghost use Rattle.param_ids.specs.Plain.{PlainId};
 
-    ghost Value = { List ParamId };
+    ghost Value = { List PlainId };
 
     ghost use Rattle.param_ids.specs.Order.{IsNames};
 
@@ -64,7 +61,8 @@ fn order_of(a: &ParamId, b: &ParamId) -> Ordering
 
 /// The names of a list, in order.
 fn in_order(alloc: Global, list: &[ParamId]) -> Result<Vec<ParamId>, AllocError>
-    ensures order { IfOk result (λ ids. IsInOrder list.now ids.items) }
+    ensures names { IfOk result (λ ids. IsPermutation list.now ids.items) }
+    ensures order { IfOk result (λ ids. IsSorted id_cmp ids.items) }
     ensures len { IfOk result (λ ids. length ids.items ≡ length list.now) }
 {
     let mut items = Vec::new(alloc);
@@ -75,7 +73,8 @@ fn in_order(alloc: Global, list: &[ParamId]) -> Result<Vec<ParamId>, AllocError>
 
 /// In a list in order, the first name that stands twice.
 fn first_repeat(ids: &[ParamId]) -> Option<ParamId>
-    ensures some { IfSome result (IsFirstRepeat ids.now) }
+    requires { IsSorted id_cmp ids.now }
+    ensures some { IfSome result (IsLeastRepeat ids.now) }
     ensures none { IfNone result (IsRising ids.now) }
 {
     for i in 1..ids.len() {
@@ -94,36 +93,7 @@ fn place_of(ids: &[ParamId], id: &ParamId) -> Result<usize, usize>
     ids.binary_search(id)
 }
 
-/// Whether a name is above the one before it.
-fn is_above(ids: &[ParamId], i: usize) -> bool
-    requires place { i < length ids.now }
-    requires sorted { IsSorted id_cmp ids.now }
-    ensures above { OnTrue result (0 < i → (d : ParamId) → id_cmp (slice_index_or ids.now (i - 1) d) (slice_index_or ids.now i d) ≡ Ordering.Less) }
-    ensures tied { OnFalse result ((0 < i) × ((d : ParamId) → SameId (slice_index_or ids.now (i - 1) d) (slice_index_or ids.now i d))) }
-{
-    if i == 0 {
-        return true;
-    }
-    let above = order_of(&ids[i - 1], &ids[i]) == Ordering::Less;
-    above
-}
-
-/// Names in order without their repeats.
-fn without_repeats(alloc: Global, ids: &[ParamId]) -> Result<Vec<ParamId>, AllocError>
-    requires { IsSorted id_cmp ids.now }
-    ensures union { IfOk result (λ out. IsRising out.items × SameNames ids.now out.items) }
-    ensures len { IfOk result (λ out. length out.items ≤ length ids.now) }
-{
-    let mut out = Vec::new(alloc);
-    for i in 0..ids.len() {
-        if is_above(ids, i) {
-            out.push(ids[i])?;
-        }
-    }
-    Ok(out)
-}
-
-/// The names of both lists, in order and without repeats.
+/// The names of both lists, in order, each once.
 fn union_of(alloc: Global, one: &[ParamId], other: &[ParamId]) -> Result<Vec<ParamId>, AllocError>
     requires one { length one.now ≤ 1000 }
     requires other { length other.now ≤ 1000 }
@@ -133,8 +103,9 @@ fn union_of(alloc: Global, one: &[ParamId], other: &[ParamId]) -> Result<Vec<Par
     let mut both = Vec::new(alloc);
     both.extend_from_slice(one)?;
     both.extend_from_slice(other)?;
-    let ids = in_order(alloc, &both)?;
-    without_repeats(alloc, &ids)
+    both.sort_unstable();
+    both.dedup();
+    Ok(both)
 }
 
 impl Names {
@@ -186,8 +157,8 @@ impl Names {
 
     /// The place of a name, or none where it is not there.
     pub fn find(&self, id: &ParamId) -> Option<usize>
-        ensures some { IfSome result (λ i. (i < length self.now) × ((d : ParamId) → SameId (slice_index_or self.now i d) id.now)) }
-        ensures none { IfNone result ((k : ℕ) (d : ParamId) → k < length self.now → SameId (slice_index_or self.now k d) id.now → ⊥) }
+        ensures some { IfSome result (λ i. slice_get self.now i ≡ Some id.now) }
+        ensures none { IfNone result (Contains self.now id.now → ⊥) }
     {
         match place_of(&self.items, id) {
             Ok(place) => Some(place),

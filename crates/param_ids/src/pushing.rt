@@ -5,8 +5,8 @@ ghost use Rattle.std.specs.List.{flat_map};
 ghost use Rattle.param_ids.specs.Ids.{IsIdText};
 
 use crate::ids::ParamId;
+use blanks::trim;
 use snx_epoch::print_epoch;
-use snx_lines::trim_blanks;
 use std::alloc::AllocError;
 
 fn push_parts(out: &mut Vec<u8>, parts: &[&[u8]]) -> Result<(), AllocError>
@@ -31,13 +31,13 @@ pub fn push_id(out: &mut Vec<u8>, id: &ParamId) -> Result<(), AllocError>
     let before = out.len();
     let time = print_epoch(&id.epoch);
     let parts: [&[u8]; 9] = [
-        trim_blanks(&id.kind),
+        trim(&id.kind),
         b"/",
-        trim_blanks(&id.code),
+        trim(&id.code),
         b"/",
-        trim_blanks(&id.point),
+        trim(&id.point),
         b"/",
-        trim_blanks(&id.soln),
+        trim(&id.soln),
         b"/",
         &time,
     ];

@@ -1,20 +1,31 @@
 //! The powers of ten by which parameters are scaled.
 
-ghost use Rattle.std.specs.Prelude.{◌≡◌, ◌<◌, ◌≤◌, ◌+◌, ◌≤ℤ◌, ℕ, ℤ, List, pos, negsuc, IfOk, OnOk, OnErr, IsNone, false, length};
-ghost use Rattle.std.specs.Ordering.{nat_cmp};
-ghost use Rattle.std.specs.Cmp.Lexicographic.{slice_cmp};
-ghost use Rattle.std.specs.BTreeMap.{get, btree_map_len, IsUnchanged};
-ghost use Rattle.param_ids.specs.Tables.{scale_in, is_kind, standard_scale, IsScale};
+ghost use Rattle.std.specs.Prelude.{◌≡◌, ◌<◌, ◌+◌, if◌then◌else◌, IfOk, OnOk, OnErr, IsNone};
+ghost use Rattle.std.specs.FinMap as map;
+ghost use Rattle.param_ids.specs.Tables.{scale_in, standard_scales, IsScale};
 
 use std::alloc::{AllocError, Global};
 use std::collections::BTreeMap;
+use std::marker::Model;
 
 /// At most 64 types of parameters with their powers of ten, from -4 to 6.
 #[derive(Drop)]
 pub struct Scales {
     table: BTreeMap<[u8; 6], i32>,
-    pub ghost few: { btree_map_len table ≤ 64 },
-    pub ghost in_range: { (kind : List ℕ) → IsScale (scale_in table kind) },
+}
+
+impl Model for Scales {
+    ghost use Rattle.std.specs.Coded.{coded_ℕ, coded_ℤ, coded_list};
+    ghost use Rattle.std.specs.FinMap as map;
+    ghost use Rattle.param_ids.specs.Tables.{ScaleMap, IsScaleMap};
+
+    ghost Value = { ScaleMap };
+
+    ghost coded = { map.code (coded_list coded_ℕ) coded_ℤ };
+
+    ghost view = { λ s. map.from_entries s.table.entries };
+
+    ghost invariant = { λ s. IsScaleMap (map.from_entries s.table.entries) };
 }
 
 impl Scales {
@@ -24,8 +35,8 @@ impl Scales {
     ///
     /// Want of memory.
     pub fn standard(alloc: Global) -> Result<Scales, AllocError>
-        ensures scales { IfOk result (λ scales. (kind : List ℕ) → scale_in scales.table kind ≡ standard_scale kind) }
-        ensures len { IfOk result (λ scales. btree_map_len scales.table ≤ 2) }
+        ensures scales { IfOk result (λ scales. scales ≡ standard_scales) }
+        ensures size { IfOk result (λ scales. map.len scales ≡ 2) }
     {
         let mut table = BTreeMap::new(alloc);
         if table.insert(*b"RS_RA ", 6).is_err() {
@@ -44,11 +55,10 @@ impl Scales {
     /// Want of memory; the table is then as it was.
     pub fn set(&mut self, kind: [u8; 6], t: i32) -> Result<(), AllocError>
         requires range { IsScale t }
-        requires room { IsNone (get (slice_cmp nat_cmp) self.old.table kind) → btree_map_len self.old.table < 64 }
-        ensures ok { OnOk result (scale_in self.new.table kind ≡ t) }
-        ensures len { btree_map_len self.new.table ≤ btree_map_len self.old.table + 1 }
-        ensures others { (other : List ℕ) → is_kind kind other ≡ false → scale_in self.new.table other ≡ scale_in self.old.table other }
-        ensures err { OnErr result (IsUnchanged self.old.table self.new.table) }
+        requires room { IsNone (map.get self.old kind) → map.len self.old < 64 }
+        ensures ok { OnOk result (self.new ≡ map.insert self.old kind t) }
+        ensures size { OnOk result (map.len self.new ≡ (if map.contains_key self.old kind then map.len self.old else map.len self.old + 1)) }
+        ensures err { OnErr result (self.new ≡ self.old) }
     {
         if self.table.insert(kind, t).is_err() {
             return Err(AllocError);
@@ -57,16 +67,10 @@ impl Scales {
     }
 }
 
-fn look_up(kind: &[u8; 6], table: &Scales) -> i32
-    ensures { result ≡ scale_in table.now.table kind.now }
-{
-    table.table.get(kind).copied().unwrap_or(0)
-}
-
 /// The number of a type, or 0 where it has none.
 pub fn scale_of(kind: &[u8; 6], table: &Scales) -> i32
-    ensures value { result ≡ scale_in table.now.table kind.now }
+    ensures value { result ≡ scale_in table.now kind.now }
     ensures range { IsScale result }
 {
-    look_up(kind, table)
+    table.table.get(kind).copied().unwrap_or(0)
 }

@@ -1,6 +1,6 @@
 //! Names on rows, in lists and in tables of scales.
 
-use crate::{IdFault, Names, NamesError, ParamId, Scales, push_id, scale_of};
+use crate::{IdFault, Names, NamesError, ParamId, Scales, kind_of, push_id, scale_of, unit_of};
 use snx_epoch::{Epoch, EpochFault};
 use snx_lines::{Kind, Line};
 use std::alloc::AllocError;
@@ -52,6 +52,17 @@ fn reads_names(rt: HostRuntime) -> Result<(), Fail> {
     Ok(())
 }
 
+#[test]
+fn reads_texts(rt: HostRuntime) {
+    assert_eq!(rt; kind_of(b"STAX"), Some(*b"STAX  "));
+    assert_eq!(rt; kind_of(b""), None);
+    assert_eq!(rt; kind_of(b"STATION"), None);
+    assert_eq!(rt; unit_of(b"m/y"), Some(*b"m/y "));
+    assert_eq!(rt; unit_of(b"m\x7f"), None);
+    let named = ParamId::named(b"STAX", b"ABCD", b"A", b"0003", b"");
+    assert_eq!(rt; named, Ok(with_soln(b'3')));
+}
+
 fn with_soln(digit: u8) -> ParamId {
     ParamId {
         kind: *b"STAX  ",
@@ -99,8 +110,8 @@ fn lists_names(rt: HostRuntime) -> Result<(), Fail> {
     ];
     let repeated = Names::from_list(rt.alloc(), &twice);
     crosses_threads(&repeated);
-    let least = match repeated {
-        Err(NamesError::Repeated { id }) => id,
+    let least = match &repeated {
+        Err(NamesError::Repeated { id }) => *id,
         _ => with_soln(b'9'),
     };
     assert_eq!(rt; *crosses_threads(&least), with_soln(b'2'));

@@ -1,12 +1,9 @@
 //! The texts of which a name is made.
 
-ghost use Rattle.std.specs.Prelude.{◌≡◌, ◌+◌, ◌-◌, ◌<◌, ◌≤◌, ℕ, length};
+ghost use Rattle.std.specs.Prelude.{◌≡◌, length};
 ghost use Rattle.std.specs.List.{list_all};
 ghost use Rattle.std.specs.Char.{is_ascii_digit};
-ghost use Rattle.snx_lines.specs.Lines.{columns};
-ghost use Rattle.param_ids.specs.Texts.{at_or_blank, in_2, in_4, in_6, is_plain_byte, is_plain, without_zeros, soln_text, has_name};
-
-use snx_lines::{Line, field};
+ghost use Rattle.param_ids.specs.Texts.{at_or_blank, in_2, in_4, in_6, is_plain_byte, is_plain, fits, without_zeros, plain_soln, kind_text, code_text, point_text, soln_text, unit_text};
 
 fn byte_at(text: &[u8], i: usize) -> u8
     ensures { result ≡ at_or_blank text.now i }
@@ -15,14 +12,14 @@ fn byte_at(text: &[u8], i: usize) -> u8
 }
 
 /// A text in two bytes.
-pub(crate) fn padded_2(text: &[u8]) -> [u8; 2]
+fn padded_2(text: &[u8]) -> [u8; 2]
     ensures { result ≡ in_2 text.now }
 {
     [byte_at(text, 0), byte_at(text, 1)]
 }
 
 /// A text in four bytes.
-pub(crate) fn padded_4(text: &[u8]) -> [u8; 4]
+fn padded_4(text: &[u8]) -> [u8; 4]
     ensures { result ≡ in_4 text.now }
 {
     [
@@ -34,7 +31,7 @@ pub(crate) fn padded_4(text: &[u8]) -> [u8; 4]
 }
 
 /// A text in six bytes.
-pub(crate) fn padded_6(text: &[u8]) -> [u8; 6]
+fn padded_6(text: &[u8]) -> [u8; 6]
     ensures { result ≡ in_6 text.now }
 {
     [
@@ -77,8 +74,8 @@ fn is_number(text: &[u8]) -> bool
 }
 
 /// A solution, without leading zeros where it is a number.
-pub(crate) fn plain_soln<'a>(text: &'a [u8]) -> &'a [u8]
-    ensures { result.now ≡ soln_text text.now }
+fn plain_soln<'a>(text: &'a [u8]) -> &'a [u8]
+    ensures { result.now ≡ plain_soln text.now }
 {
     if is_number(text) {
         drop_zeros(text)
@@ -87,14 +84,61 @@ pub(crate) fn plain_soln<'a>(text: &'a [u8]) -> &'a [u8]
     }
 }
 
-/// Whether the four texts of a row's name may stand in one.
-pub(crate) fn name_may_stand(line: &Line) -> bool
-    ensures { result ≡ has_name line.now.text.now }
+/// Whether a text has at most so many bytes, and each may stand in a name.
+fn fits(text: &[u8], most: usize) -> bool
+    ensures { result ≡ fits most text.now }
 {
-    let kind = field(line, 8, 13);
-    kind.len() > 0
-        && all_may_stand(kind)
-        && all_may_stand(field(line, 15, 18))
-        && all_may_stand(field(line, 20, 21))
-        && all_may_stand(field(line, 23, 26))
+    text.len() <= most && all_may_stand(text)
+}
+
+/// The type that a text is in a name, without blanks at its ends: none where it is empty or over 6 bytes long, or has a byte not from 32 to 126.
+pub fn kind_of(text: &[u8]) -> Option<[u8; 6]>
+    ensures { result ≡ kind_text text.now }
+{
+    if text.len() > 0 && fits(text, 6) {
+        Some(padded_6(text))
+    } else {
+        None
+    }
+}
+
+/// The code that a text is in a name, without blanks at its ends: none where it is over 4 bytes long, or has a byte not from 32 to 126.
+pub fn code_of(text: &[u8]) -> Option<[u8; 4]>
+    ensures { result ≡ code_text text.now }
+{
+    if fits(text, 4) {
+        Some(padded_4(text))
+    } else {
+        None
+    }
+}
+
+/// The point that a text is in a name, without blanks at its ends: none where it is over 2 bytes long, or has a byte not from 32 to 126.
+pub fn point_of(text: &[u8]) -> Option<[u8; 2]>
+    ensures { result ≡ point_text text.now }
+{
+    if fits(text, 2) {
+        Some(padded_2(text))
+    } else {
+        None
+    }
+}
+
+/// The solution that a text is in a name, without blanks at its ends: a number loses its leading zeros. None where the text is over 4 bytes
+/// long, or has a byte not from 32 to 126.
+pub fn soln_of(text: &[u8]) -> Option<[u8; 4]>
+    ensures { result ≡ soln_text text.now }
+{
+    if fits(text, 4) {
+        Some(padded_4(plain_soln(text)))
+    } else {
+        None
+    }
+}
+
+/// The unit that a text is, without blanks at its ends: none where it is over 4 bytes long, or has a byte not from 32 to 126.
+pub fn unit_of(text: &[u8]) -> Option<[u8; 4]>
+    ensures { result ≡ unit_text text.now }
+{
+    code_of(text)
 }

@@ -6,7 +6,8 @@ use Rattle.std.specs.Char.{is_ascii_digit}
 use Rattle.std.proofs.lemmas.Bool.{and_parts, and_from, and_left, and_right, or_from, ne_eqb, le-leb, le-ltb, leb-true, leb-false, cond-true, cond-false, cases_Bool}
 use Rattle.jiff_core.proofs.SignedLemmas.{signed_arith}
 use Rattle.jiff_core.proofs.CalendarLemmas.{days_in_year_bounds}
-use Rattle.snx_epoch.specs.Moments.{IsMoment, full_year, day_number, has_day, moment, is_blank, without_blanks, has_digit, digit_places, is_time, year_in, day_in, second_in, epoch_from, epoch_in, byte_of, time_text, IsTextOf, instant, IsMomentAt, IsMiddleOf}
+use Rattle.blanks.specs.Blanks.{is_blank, front_trimmed}
+use Rattle.snx_epoch.specs.Moments.{IsMoment, full_year, day_number, has_day, moment, has_digit, digit_places, is_time, year_in, day_in, second_in, epoch_from, epoch_in, byte_of, time_text, IsTextOf, instant, IsMomentAt, IsMiddleOf}
 use Rattle.snx_epoch.specs.declared.Epoch.{Epoch}
 use Rattle.snx_epoch.specs.declared.Epoch.TheVariants.{At}
 use Rattle.snx_epoch.specs.declared.EpochFault.{EpochFault}
@@ -45,7 +46,7 @@ pub time_read : (rest : List ℕ) → is_time rest ≡ true → epoch_from rest 
 time_read [] e = cc
 time_read (first ∷ rest) e = cond-true _ _ _ e
 
-pub read_is : (text rest : List ℕ) (y d s : ℕ) (r : Result Epoch EpochFault) → rest ≡ without_blanks text → is_time rest ≡ true → y ≡ year_in rest → d ≡ day_in rest → s ≡ second_in rest → r ≡ moment y d s → r ≡ epoch_in text
+pub read_is : (text rest : List ℕ) (y d s : ℕ) (r : Result Epoch EpochFault) → rest ≡ front_trimmed text → is_time rest ≡ true → y ≡ year_in rest → d ≡ day_in rest → s ≡ second_in rest → r ≡ moment y d s → r ≡ epoch_in text
 read_is text rest y d s r same e year day second is =
     is ∙ (ap (λ n. moment n d s) year ∙ (ap (λ n. moment (year_in rest) n s) day ∙ (ap (λ n. moment (year_in rest) (day_in rest) n) second ∙ (sym (time_read rest e) ∙ ap epoch_from same))))
 
@@ -110,7 +111,7 @@ second_digits s lt = second_sum s _ _ _ _ _ lt (shift_back (s / 10000 % 10)) (sh
 -- the text of three numbers reads as their moment
 pub reads_time : (y d s : ℕ) → y < 100 → d < 1000 → s < 100000 → epoch_in (time_text y d s) ≡ moment y d s
 reads_time y d s ly ld ls =
-    let no_blanks : without_blanks (time_text y d s) ≡ time_text y d s = ap (λ b. drop (cond b (1 + prefix_len is_blank (drop 1 (time_text y d s))) 0) (time_text y d s)) (digit_no_blank (y / 10 % 10)) in
+    let no_blanks : front_trimmed (time_text y d s) ≡ time_text y d s = ap (λ b. drop (cond b (1 + prefix_len is_blank (drop 1 (time_text y d s))) 0) (time_text y d s)) (digit_no_blank (y / 10 % 10)) in
     ap epoch_from no_blanks ∙ (time_read (time_text y d s) (text_is_time y d s) ∙ (ap (λ n. moment n (day_in (time_text y d s)) (second_in (time_text y d s))) (year_digits y ly)
     ∙ (ap (λ n. moment y n (second_in (time_text y d s))) (day_digits d ld) ∙ ap (λ n. moment y d n) (second_digits s ls))))
 

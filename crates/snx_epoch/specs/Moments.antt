@@ -1,11 +1,12 @@
 -- Moments of a SINEX text: `YY:DDD:SSSSS`, a year of two digits, the day in the year and the second in the day (SINEX 2.02 format description).
 -- Days are counted from 1970-01-01 by the Gregorian calendar of `jiff_core`.
 use Rattle.std.specs.Prelude.{◌≡◌, ◌≤◌, ◌+◌, ◌-◌, ◌*◌, ◌/◌, ◌%◌, ℕ, Bool, true, ◌||◌, ◌&&◌, ◌==◌, nat_le, nat_lt, if◌then◌else◌, List, [], ◌∷◌, drop, length, Result, Ok, Err, ℤ, pos, negsuc, ◌+ℤ◌, ◌-ℤ◌, ◌*ℤ◌, ◌≤ℤ◌, int_le, slice_index, IsTrue}
-use Rattle.std.specs.List.{list_all, prefix_len}
+use Rattle.std.specs.List.{list_all}
 use Rattle.std.specs.Char.{is_ascii_digit}
 use Rattle.std.specs.Ordering.{nat_cmp, int_cmp, ordering_then}
 use Rattle.std.specs.declared.cmp.Ordering.{Ordering}
 use Rattle.std.specs.declared.cmp.Ordering.TheVariants.{Less, Equal, Greater}
+use Rattle.blanks.specs.Blanks.{is_blank_text, front_trimmed}
 use Rattle.jiff_core.specs.Calendar.{days_from_civil, days_in_year}
 use Rattle.snx_epoch.specs.declared.Epoch.{Epoch}
 use Rattle.snx_epoch.specs.declared.Epoch.TheVariants.{Never, At}
@@ -46,14 +47,6 @@ moment year day second =
     if (year == 0) && (day == 0) && (second == 0) then Ok Never
     else (if has_day (full_year year) day then at_second year day second else Err faults.Day)
 
--- a space or a tab
-abbrev pub is_blank : ℕ → Bool
-is_blank b = (b == 32) || (b == 9)
-
--- a text without the blanks at its front
-abbrev pub without_blanks : List ℕ → List ℕ
-without_blanks text = drop (prefix_len is_blank text) text
-
 -- the byte at an index is a digit, and which
 abbrev pub has_digit : List ℕ → ℕ → Bool
 has_digit text i = is_ascii_digit (slice_index text i)
@@ -71,7 +64,7 @@ is_time text =
     nat_le 12 (length text)
     && (slice_index text 2 == 58) && (slice_index text 6 == 58)
     && list_all (has_digit text) digit_places
-    && list_all is_blank (drop 12 text)
+    && is_blank_text (drop 12 text)
 
 -- its year of two digits, its day and its second
 abbrev pub year_in : List ℕ → ℕ
@@ -92,7 +85,7 @@ epoch_from (first ∷ rest) =
 
 -- the moment that a text writes, with blanks around it, or its first fault; blanks alone are Never
 abbrev pub epoch_in : List ℕ → Result Epoch EpochFault
-epoch_in text = epoch_from (without_blanks text)
+epoch_in text = epoch_from (front_trimmed text)
 
 -- the byte of a decimal digit
 abbrev pub byte_of : ℕ → ℕ

@@ -4,8 +4,9 @@
 ghost use Rattle.std.specs.Prelude.{◌≡◌, ◌≤◌, ◌<◌, ◌+◌, ◌-◌, ◌*◌, ◌/◌, ◌%◌, ◌≤ℤ◌, ◌<ℤ◌, ◌↔◌, ℕ, ℤ, pos, negsuc, ◌+ℤ◌, ◌-ℤ◌, true, Ok, Err, Some, None, length, IfSome, IfOk, IsSome, is_some, if◌then◌else◌, IsTrue};
 ghost use Rattle.std.specs.List.{list_all};
 ghost use Rattle.jiff_core.specs.Date.{epoch_day};
-ghost use Rattle.snx_epoch.specs.Moments.{is_moment, IsMoment, full_year, day_number, has_day, at_second, moment, is_blank, without_blanks, has_digit, digit_in, digit_places, is_time, year_in, day_in, second_in, epoch_in, byte_of, time_text, IsDayOf, IsTextOf, instant, IsMomentAt, IsMiddleOf};
+ghost use Rattle.snx_epoch.specs.Moments.{is_moment, IsMoment, full_year, day_number, has_day, at_second, moment, has_digit, digit_in, digit_places, is_time, year_in, day_in, second_in, epoch_in, byte_of, time_text, IsDayOf, IsTextOf, instant, IsMomentAt, IsMiddleOf};
 
+use blanks::{is_all_blank, trim_front};
 use jiff_core::civil::Date;
 use thiserror::Error;
 
@@ -48,28 +49,6 @@ impl Epoch {
         }
         Some(Epoch::At { day, second })
     }
-}
-
-fn is_blank_byte(b: u8) -> bool
-    ensures { result ≡ is_blank b }
-{
-    b == b' ' || b == b'\t'
-}
-
-fn skip_blanks<'a>(text: &'a [u8]) -> &'a [u8]
-    ensures { result.now ≡ without_blanks text.now }
-{
-    let mut rest = text;
-    while let [b' ' | b'\t', tail @ ..] = rest {
-        rest = tail;
-    }
-    rest
-}
-
-fn is_all_blank(text: &[u8]) -> bool
-    ensures { result ≡ list_all is_blank text.now }
-{
-    text.iter().all(|b| is_blank_byte(*b))
 }
 
 /// Whether the bytes that are no colon are digits.
@@ -216,7 +195,7 @@ pub fn read_epoch(text: &[u8]) -> Result<Epoch, EpochFault>
     ensures value { result ≡ epoch_in text.now }
     ensures range { IfOk result IsMoment }
 {
-    let rest = skip_blanks(text);
+    let rest = trim_front(text);
     if rest.is_empty() {
         return Ok(Epoch::Never);
     }

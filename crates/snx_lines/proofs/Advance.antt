@@ -5,7 +5,8 @@ use Rattle.std.specs.Option.{option_map}
 use Rattle.std.proofs.lemmas.List.{map_push, length_push}
 use Rattle.std.proofs.lemmas.List.Elements.{filter-append, All-push}
 use Rattle.std.proofs.lemmas.Bool.{cases_Bool, both_ways, false_from_ne_true, true_from_ne_false, or_right, and_parts, or_cases, eqb-true}
-use Rattle.snx_lines.specs.Lines.{is_blank_line, kind_of, kind_by, PlainLine, name_on, line_at}
+use Rattle.blanks.specs.Blanks.{is_blank_text}
+use Rattle.snx_lines.specs.Lines.{kind_of, kind_by, PlainLine, name_on, line_at}
 use Rattle.snx_lines.specs.Framing.{is_footer, is_title, is_end, is_mark, is_body, is_closed, last_mark, title_of, open_title, IsBadLater, IsFirstFault, PlainBlock, IsBlockOf, is_kind_title, is_kind_end, is_kind_data}
 use Rattle.snx_lines.specs.Passing.{State, later_cause, kept, with_line, blocks_with, name_open, step, unless_bad, fault_at}
 use Rattle.snx_lines.proofs.Judged.{title_name, later_bad, later_good, footer_kind}
@@ -38,7 +39,7 @@ caught_by header lines state line cause d k e =
     later_bad (is_closed lines) (open_title lines) line cause same k
 
 -- a line of blanks is data
-blank_kind : (text : List ℕ) → is_blank_line text ≡ true → kind_of text ≡ Some kinds.Data
+blank_kind : (text : List ℕ) → is_blank_text text ≡ true → kind_of text ≡ Some kinds.Data
 blank_kind [] e = refl
 blank_kind (b ∷ rest) e =
     elim (or_cases (b == 32) (b == 9) (and_parts _ _ e).0) [
@@ -46,13 +47,13 @@ blank_kind (b ∷ rest) e =
       | inr h ↦ subst (λ n. kind_by n ≡ Some kinds.Data) (sym (eqb-true b 9 h)) refl
     ]
 
-not_blank : (line : PlainLine) (kind : Option Kind) → line.kind ≡ kind_of line.text → line.kind ≡ kind → is_kind_data kind ≡ false → is_blank_line line.text ≡ false
+not_blank : (line : PlainLine) (kind : Option Kind) → line.kind ≡ kind_of line.text → line.kind ≡ kind → is_kind_data kind ≡ false → is_blank_text line.text ≡ false
 not_blank line kind k e other = false_from_ne_true _ (λ b. both_ways _ other (ap is_kind_data (sym e ∙ k ∙ blank_kind line.text b)))
 
 not_footer : (line : PlainLine) (kind : Option Kind) → line.kind ≡ kind_of line.text → line.kind ≡ kind → (kind ≡ Some kinds.Header → ⊥) → is_footer line.text ≡ false
 not_footer line kind k e other = false_from_ne_true _ (λ f. other (sym e ∙ k ∙ footer_kind line.text f))
 
-still_open : (lines : List PlainLine) (line : PlainLine) → IsSpared lines line → is_blank_line line.text ≡ false → is_closed lines ≡ false
+still_open : (lines : List PlainLine) (line : PlainLine) → IsSpared lines line → is_blank_text line.text ≡ false → is_closed lines ≡ false
 still_open lines line spared b = false_from_ne_true _ (λ c. spared causes.AfterFooter (c, b))
 
 pub some_lines : (xs : List PlainLine) (x : PlainLine) → slice_get xs 0 ≡ Some x → 0 < length xs
@@ -174,7 +175,7 @@ advance_by (Some kinds.Data) header lines state line d spared k e n =
     let title : is_title line ≡ false = ap is_kind_title e in
     let ending : is_end line ≡ false = ap is_kind_end e in
     let mark : is_mark line ≡ false = rw (title, ending) refl in
-    elim (cases_Bool (is_blank_line line.text)) [
+    elim (cases_Bool (is_blank_text line.text)) [
       | inl blank ↦
           let body : is_body line ≡ false = rw (e, blank) refl in
           subst (λ b. Describes header (lines ++ line ∷ []) (record { blocks = state.blocks; current = cond b state.current (option_map (with_line line) state.current); closed = state.closed; number = line.number })) (sym blank)

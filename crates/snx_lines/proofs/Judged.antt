@@ -4,7 +4,8 @@ use Rattle.std.specs.Option.{option_map}
 use Rattle.std.specs.Str.{bytes_eq}
 use Rattle.std.proofs.lemmas.Bool.{both_ways, eqb-true, and_parts}
 use Rattle.std.proofs.lemmas.Slice.Eq.{bytes_eq-Decides}
-use Rattle.snx_lines.specs.Lines.{is_blank_line, kind_of, kind_by, PlainLine, name_on}
+use Rattle.blanks.specs.Blanks.{is_blank_text}
+use Rattle.snx_lines.specs.Lines.{kind_of, kind_by, PlainLine, name_on}
 use Rattle.snx_lines.specs.Framing.{is_footer, IsBadLater, IsBadFirst, IsRead, IsStray, EndsOpen, is_header, has_version}
 use Rattle.snx_lines.specs.Passing.{later_cause, kind_cause, first_cause}
 use Rattle.snx_lines.specs.declared.columns.Kind.{Kind}
@@ -39,7 +40,7 @@ first_good line causes.Version e h = let f = rw (h.0, h.1) at e in cc
 first_good line c e h = h
 
 -- a line that is read, by its kind
-pub kind_bad : (kind : Option Kind) (here : Option PlainLine) (line : PlainLine) (c : FrameCause) → kind_cause kind (option_map title_name here) line.text ≡ Some c → line.kind ≡ kind → is_blank_line line.text ≡ false → IsBadLater false here line c
+pub kind_bad : (kind : Option Kind) (here : Option PlainLine) (line : PlainLine) (c : FrameCause) → kind_cause kind (option_map title_name here) line.text ≡ Some c → line.kind ≡ kind → is_blank_text line.text ≡ false → IsBadLater false here line c
 kind_bad None here line c e k b = for_cause (IsBadLater false here line) causes.FirstColumn c e ((refl, b), inl k)
 kind_bad (Some kinds.Header) None line c e k b =
     elim (cond_cases (is_footer line.text) _ _ _ e) [
@@ -66,7 +67,7 @@ kind_bad (Some kinds.Data) (Some title) line c e k b = cc
 -- a later line for which the pass finds a cause is bad for it
 pub later_bad : (closed : Bool) (here : Option PlainLine) (line : PlainLine) (c : FrameCause) → later_cause closed (option_map title_name here) line.text ≡ Some c → line.kind ≡ kind_of line.text → IsBadLater closed here line c
 later_bad closed here line c e k =
-    elim (cond_cases (is_blank_line line.text) _ _ _ e) [
+    elim (cond_cases (is_blank_text line.text) _ _ _ e) [
       | inl b ↦ cc
       | inr b ↦ elim (cond_cases closed _ _ _ b.1) [
         | inl h ↦ for_cause (IsBadLater closed here line) causes.AfterFooter c h.1 (h.0, b.0)

@@ -2,7 +2,8 @@
 -- Each is a fact about a list of lines: what is said of a line speaks of it and of the lines before it.
 use Rattle.std.specs.Prelude.{◌≡◌, ◌≢◌, ◌<◌, ◌≤◌, ◌+◌, ℕ, Bool, true, false, ◌||◌, ◌&&◌, if◌then◌else◌, ◌⊎◌, not, nat_eq, List, [], ◌∷◌, ◌++◌, map, take, drop, length, reverse, filter, Option, Some, None, IsSome, codes, slice_get, All}
 use Rattle.std.specs.List.{list_all, list_any, find, starts_with}
-use Rattle.snx_lines.specs.Lines.{is_blank_line, PlainLine, name_on}
+use Rattle.blanks.specs.Blanks.{is_blank_text}
+use Rattle.snx_lines.specs.Lines.{PlainLine, name_on}
 use Rattle.snx_lines.specs.declared.columns.Kind.{Kind}
 use Rattle.snx_lines.specs.declared.columns.Kind.TheVariants as kinds
 use Rattle.snx_lines.specs.declared.blocks.FrameCause.{FrameCause}
@@ -51,7 +52,7 @@ is_mark line = is_title line || is_end line
 
 -- a line of data that is not all blank
 abbrev pub is_body : PlainLine → Bool
-is_body line = is_kind_data line.kind && not (is_blank_line line.text)
+is_body line = is_kind_data line.kind && not (is_blank_text line.text)
 
 -- the footer is among these lines
 abbrev pub is_closed : List PlainLine → Bool
@@ -83,7 +84,7 @@ IsBadFirst line cause = ⊥
 
 -- a line is read: the footer does not stand before it, and it is not a line of blanks
 abbrev pub IsRead : Bool → PlainLine → Type 0
-IsRead closed line = (closed ≡ false) × (is_blank_line line.text ≡ false)
+IsRead closed line = (closed ≡ false) × (is_blank_text line.text ≡ false)
 
 -- a line begins with no byte of the format, or with `%` and is not the footer, or is data outside a block
 abbrev pub IsStray : Option PlainLine → PlainLine → Type 0
@@ -94,7 +95,7 @@ IsStray open_here line =
 
 -- a later line is bad for a cause, where the footer stands before it or does not, and by the title whose block is open there
 abbrev pub IsBadLater : Bool → Option PlainLine → PlainLine → FrameCause → Type 0
-IsBadLater closed open_here line AfterFooter = (closed ≡ true) × (is_blank_line line.text ≡ false)
+IsBadLater closed open_here line AfterFooter = (closed ≡ true) × (is_blank_text line.text ≡ false)
 IsBadLater closed open_here line FirstColumn = IsRead closed line × IsStray open_here line
 IsBadLater closed open_here line Nested = IsRead closed line × (line.kind ≡ Some kinds.Start) × IsSome open_here
 IsBadLater closed open_here line WrongEnd = IsRead closed line × (line.kind ≡ Some kinds.End) × (EndsOpen open_here line → ⊥)

@@ -1,17 +1,10 @@
 -- The lines of a text, as the SINEX 2.02 format description sees them: the first column says what a line is, and columns after 80 are not read.
-use Rattle.std.specs.Prelude.{ℕ, ◌+◌, ◌-◌, Bool, ◌||◌, ◌==◌, if◌then◌else◌, List, [], ◌∷◌, map, take, drop, length, Option, Some, None, slice_range}
-use Rattle.std.specs.List.{list_all, before_first, prefix_len, suffix_len}
+use Rattle.std.specs.Prelude.{ℕ, ◌+◌, ◌-◌, ◌==◌, if◌then◌else◌, List, [], ◌∷◌, map, take, drop, Option, Some, None, slice_range}
+use Rattle.std.specs.List.{before_first}
+use Rattle.blanks.specs.Blanks.{is_blank, trimmed}
 use Rattle.bstr.specs.Text.{lines_of, without_terminator}
 use Rattle.snx_lines.specs.declared.columns.Kind.{Kind}
 use Rattle.snx_lines.specs.declared.columns.Kind.TheVariants as kinds
-
--- a space or a tab
-abbrev pub is_blank : ℕ → Bool
-is_blank b = (b == 32) || (b == 9)
-
--- a line of blanks alone; an empty line is one
-abbrev pub is_blank_line : List ℕ → Bool
-is_blank_line text = list_all is_blank text
 
 -- what a first byte says of a line: `%`, `*`, `+`, `-` or a blank
 abbrev pub kind_by : ℕ → Option Kind
@@ -48,18 +41,6 @@ cut text = take 80 text
 -- the lines of a text, counted from 1: each ends by LF or CR LF, and is cut at column 80
 abbrev pub lines_in : List ℕ → List PlainLine
 lines_in text = numbered 1 (map cut (map without_terminator (lines_of text)))
-
--- a text without the blanks at its front
-abbrev pub front_trimmed : List ℕ → List ℕ
-front_trimmed text = drop (prefix_len is_blank text) text
-
--- a text without the blanks at its end
-abbrev pub end_trimmed : List ℕ → List ℕ
-end_trimmed text = take (length text - suffix_len is_blank text) text
-
--- a text without the blanks at both ends
-abbrev pub trimmed : List ℕ → List ℕ
-trimmed text = end_trimmed (front_trimmed text)
 
 -- columns from to `to` of a line, counted from 1, without the blanks at both ends; columns that the line lacks are blank
 abbrev pub columns : List ℕ → ℕ → ℕ → List ℕ

@@ -3,7 +3,8 @@
 use Rattle.std.specs.Prelude.{◌≡◌, ℕ, ◌+◌, Bool, true, false, if◌then◌else◌, List, [], ◌∷◌, ◌++◌, map, Option, Some, None, Result, Ok, Err}
 use Rattle.std.specs.Option.{option_map}
 use Rattle.std.specs.Str.{bytes_eq}
-use Rattle.snx_lines.specs.Lines.{is_blank_line, kind_of, PlainLine, line_at, name_on}
+use Rattle.blanks.specs.Blanks.{is_blank_text}
+use Rattle.snx_lines.specs.Lines.{kind_of, PlainLine, line_at, name_on}
 use Rattle.snx_lines.specs.Framing.{PlainBlock, is_footer, is_header, has_version}
 use Rattle.snx_lines.specs.Views.{block_view}
 use Rattle.snx_lines.specs.declared.columns.Kind.{Kind}
@@ -46,7 +47,7 @@ kind_cause (Some kinds.Data) open_name text = none_open open_name causes.FirstCo
 -- why a later line is bad
 abbrev pub later_cause : Bool → Option (List ℕ) → List ℕ → Option FrameCause
 later_cause closed open_name text =
-    if is_blank_line text then None
+    if is_blank_text text then None
     else (if closed then Some causes.AfterFooter else kind_cause (kind_of text) open_name text)
 
 -- the blocks so far, the block that is open, whether the footer came, and how many lines there were
@@ -70,7 +71,7 @@ kept (Some kinds.Header) state line = record { blocks = state.blocks; current = 
 kept (Some kinds.Comment) state line = record { blocks = state.blocks; current = state.current; closed = state.closed; number = line.number }
 kept (Some kinds.Start) state line = record { blocks = state.blocks; current = Some (record { name = name_on line.text; title = line; body = [] }); closed = state.closed; number = line.number }
 kept (Some kinds.End) state line = record { blocks = blocks_with state.current state.blocks; current = None; closed = state.closed; number = line.number }
-kept (Some kinds.Data) state line = record { blocks = state.blocks; current = (if is_blank_line line.text then state.current else option_map (with_line line) state.current); closed = state.closed; number = line.number }
+kept (Some kinds.Data) state line = record { blocks = state.blocks; current = (if is_blank_text line.text then state.current else option_map (with_line line) state.current); closed = state.closed; number = line.number }
 
 abbrev pub fault_at : ℕ → FrameCause → FrameFault
 fault_at number cause = record { line = number; cause = cause }

@@ -2,7 +2,10 @@
 
 ghost use Rattle.std.specs.Prelude.{◌≡◌, ◌+◌, ◌-◌, ◌≤◌, ◌<◌, ℕ, length, take, drop};
 ghost use Rattle.std.specs.List.{before_first, position_or_len};
-ghost use Rattle.snx_lines.specs.Lines.{is_blank, is_blank_line, kind_by, kind_of, front_trimmed, end_trimmed, trimmed, columns, name_on, cut};
+ghost use Rattle.blanks.specs.Blanks.{is_blank};
+ghost use Rattle.snx_lines.specs.Lines.{kind_by, kind_of, columns, name_on, cut};
+
+use blanks::{is_blank, trim};
 
 /// What the first column of a line says.
 #[derive(Clone, Copy, Debug, PartialEq, Eq)]
@@ -28,20 +31,6 @@ pub struct Line<'a> {
     pub kind: Kind,
     /// Its bytes without the line's end.
     pub text: &'a [u8],
-}
-
-/// A space or a tab.
-pub(crate) fn is_blank_byte(b: u8) -> bool
-    ensures { result ≡ is_blank b }
-{
-    b == b' ' || b == b'\t'
-}
-
-/// Whether each byte is a blank.
-pub(crate) fn is_all_blank(text: &[u8]) -> bool
-    ensures { result ≡ is_blank_line text.now }
-{
-    text.iter().all(|b| is_blank_byte(*b))
 }
 
 /// What a line's first column says; nothing where its byte is none of the format's.
@@ -74,7 +63,7 @@ fn first_blank(text: &[u8]) -> usize
     ensures within { result ≤ length text.now }
 {
     for (i, b) in text.iter().enumerate() {
-        if is_blank_byte(*b) {
+        if is_blank(*b) {
             return i;
         }
     }
@@ -94,33 +83,6 @@ pub(crate) fn name_from<'a>(text: &'a [u8]) -> &'a [u8]
     }
 }
 
-fn without_front<'a>(text: &'a [u8]) -> &'a [u8]
-    ensures { result.now ≡ front_trimmed text.now }
-{
-    let mut rest = text;
-    while let [b' ' | b'\t', tail @ ..] = rest {
-        rest = tail;
-    }
-    rest
-}
-
-fn without_end<'a>(text: &'a [u8]) -> &'a [u8]
-    ensures { result.now ≡ end_trimmed text.now }
-{
-    let mut rest = text;
-    while let [head @ .., b' ' | b'\t'] = rest {
-        rest = head;
-    }
-    rest
-}
-
-/// A text without the blanks at both ends: spaces and tabs.
-pub fn trim_blanks<'a>(text: &'a [u8]) -> &'a [u8]
-    ensures { result.now ≡ trimmed text.now }
-{
-    without_end(without_front(text))
-}
-
 /// Columns `from` to `to` of a line, counted from 1, without the blanks at both ends. Columns that the line lacks are blank.
 pub fn field<'a>(line: &Line<'a>, from: usize, to: usize) -> &'a [u8]
     requires first { 1 ≤ from }
@@ -130,5 +92,5 @@ pub fn field<'a>(line: &Line<'a>, from: usize, to: usize) -> &'a [u8]
     let text = line.text;
     let end = to.min(text.len());
     let start = (from - 1).min(end);
-    trim_blanks(&text[start..end])
+    trim(&text[start..end])
 }

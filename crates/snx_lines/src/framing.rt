@@ -3,13 +3,14 @@
 ghost use Rattle.std.specs.Prelude.{◌≡◌, ◌+◌, ◌≤◌, ◌<◌, ◌^◌, ℕ, length, drop, nat_eq, Ok, Err, IfOk, IfErr, Some, None};
 ghost use Rattle.std.specs.List.{starts_with};
 ghost use Rattle.std.specs.Option.{option_copied, option_map};
-ghost use Rattle.snx_lines.specs.Lines.{lines_in, is_blank_line, line_at, kind_of};
+ghost use Rattle.snx_lines.specs.Lines.{lines_in, line_at, kind_of};
 ghost use Rattle.snx_lines.specs.Framing.{is_header, is_version, has_version, is_footer};
 ghost use Rattle.snx_lines.specs.Views.{line_view, block_view, Frames};
 ghost use Rattle.snx_lines.specs.Passing.{first_cause, later_cause, kind_cause, end_cause, end_of_text, fault_at, Gives, step, state_view, kept, name_open, with_line, blocks_with};
 
 use crate::blocks::{Block, Frame, FrameCause, FrameError, FrameFault};
-use crate::columns::{Kind, Line, cut_at_80, is_all_blank, kind_from, name_from};
+use crate::columns::{Kind, Line, cut_at_80, kind_from, name_from};
+use blanks::is_all_blank;
 use bstr::ByteSlice;
 use std::alloc::Global;
 

@@ -6,7 +6,7 @@ mod columns;
 mod framing;
 
 pub use blocks::{Block, Frame, FrameCause, FrameError, FrameFault};
-pub use columns::{Kind, Line, field, trim_blanks};
+pub use columns::{Kind, Line, field};
 pub use framing::frame;
 
 #[cfg(test)]

@@ -1,4 +1,4 @@
-use Rattle.param_ids.specs.Order.{RisesTo}
+use Rattle.param_ids.proofs.Repeats.{RisesTo}
 use Rattle.param_ids.proofs.listing.first_repeat.Given as goal
 
 abbrev pub invariant-loop-i : goal.invariant-loop-i

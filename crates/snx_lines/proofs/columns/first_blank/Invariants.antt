@@ -1,5 +1,5 @@
 use Rattle.std.proofs.Common.{◌≡◌, ℕ, ◌<◌, get_or, false}
-use Rattle.snx_lines.specs.Lines.{is_blank}
+use Rattle.blanks.specs.Blanks.{is_blank}
 use Rattle.snx_lines.proofs.columns.first_blank.Given as goal
 
 abbrev pub invariant-loop-i : goal.invariant-loop-i
