@@ -4,22 +4,23 @@
 
 use thiserror::Error;
 
-mod certificate;
 #[cfg(test)]
 mod certificate_tests;
-mod defects;
-mod enclosing;
+mod certificates;
+mod enclosure;
 #[cfg(test)]
-mod enclosing_tests;
-mod errors;
+mod enclosure_tests;
+mod row_defects;
+mod row_errors;
 mod vector;
 #[cfg(test)]
 mod vector_tests;
 
-pub use certificate::check;
-pub use defects::row_defect;
-pub use enclosing::enclose;
+pub use certificates::{certificate, check};
+pub use enclosure::enclose;
 pub use enclosures::{Enclosed, Pilot, Radius};
+pub use row_defects::{defects, row_defect};
+pub use row_errors::errors;
 pub use vector::start_vector;
 
 /// Why a working table has no start vector.

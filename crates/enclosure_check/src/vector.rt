@@ -13,7 +13,7 @@ ghost use Rattle.enclosure_check.specs.declared.VectorError.TheVariants.{Memory}
 ghost use Rattle.stated_order.specs.First.{IsLeast};
 
 use crate::VectorError;
-use crate::errors::word_at;
+use crate::row_errors::word_at;
 use enclosures::Pilot;
 use equil::Working;
 use std::alloc::{AllocError, AllocFailed, Global};
