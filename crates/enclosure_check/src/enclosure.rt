@@ -2,7 +2,7 @@
 
 ghost use Rattle.std.specs.Prelude.{◌≡◌, ◌≤◌, IfOk, IfErr};
 ghost use Rattle.sys_model.specs.Systems.{Encloses};
-ghost use Rattle.chol_factor.specs.Factor.{midpoints};
+ghost use Rattle.chol_guess.specs.Midpoints.{midpoints};
 ghost use Rattle.whole_numbers.specs.Lists.{at};
 ghost use Rattle.enclosures.specs.Radii.{radius_at};
 ghost use Rattle.equil.specs.Tables.{table_of};
