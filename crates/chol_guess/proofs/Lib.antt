@@ -1,5 +1,6 @@
 pub mod Alone
 pub mod AlonePilots
+pub mod Carried
 pub mod Makings
 pub mod Placed
 pub mod Ranges

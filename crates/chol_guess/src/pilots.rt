@@ -1,101 +1,54 @@
-//! The type of a pilot.
+//! The pilot of a working table, and of a factor.
 
-ghost use Rattle.std.specs.Prelude.{◌≡◌, ◌≤◌, ◌<◌, ◌+◌, ◌*◌, ◌^◌, ℕ, ℤ, List, length, unsigned_abs, SomeIff, IsTrue, ◌↔◌};
-ghost use Rattle.chol_guess.specs.Pilots.{PilotTable, IsScale, IsKept, pilot_word};
-ghost use Rattle.whole_numbers.specs.Lists.{at, AllAtMost};
+ghost use Rattle.std.specs.Prelude.{◌≤◌, IfOk, IfErr};
+ghost use Rattle.whole_numbers.specs.Squares.{square_at};
+ghost use Rattle.chol_guess.specs.Midpoints.{midpoints};
+ghost use Rattle.chol_guess.specs.Made.{IsPilotOf, IsRefusedOf};
+ghost use Rattle.chol_guess.specs.Pilots.{IsPilot};
+ghost use Rattle.chol_guess.specs.Refusals.{IsRefused};
 
-use std::marker::Model;
+use crate::PilotError;
+use crate::grids::{transpose, zeros};
+use crate::midpoints::midpoint_square;
+use crate::scales::greatest_scale;
+use chol_factor::{Factor, factor};
+use enclosures::Pilot;
+use equil::Working;
+use std::alloc::Global;
+use std::thread::Threads;
 
-/// The greatest size of a word.
-const LIMIT: u64 = 1 << 50;
-
-/// A square table of words of at most 2^50 in size, in units of 2^-(g + 60), where `g` is 0, 10, 20, 30, 40 or 50.
-#[derive(Drop)]
-pub struct Pilot {
-    g: u32,
-    size: usize,
-    words: Vec<i64>,
-}
-
-impl Model for Pilot {
-    ghost use Rattle.chol_guess.specs.Pilots.{PilotTable, IsKept};
-
-    ghost Value = { PilotTable };
-
-    ghost view = { λ p. record { g = p.g; size = p.size; words = p.words.items } };
-
-    ghost invariant = { λ p. IsKept (record { g = p.g; size = p.size; words = p.words.items }) };
-}
-
-fn is_scale(g: u32) -> bool
-    ensures { IsTrue result ↔ IsScale g }
+/// The pilot of the table that has this factor: its columns at the greatest scale at which all of them stay in their
+/// bounds. Condition comes exactly where there is no such scale, with the first column that fails at the least one.
+pub fn pilot_of(alloc: Global, f: &Factor) -> Result<Pilot, PilotError>
+    ensures value { IfOk result (IsPilotOf f.now.size (square_at f.now)) }
+    ensures refused { IfErr result (IsRefusedOf f.now.size (square_at f.now)) }
 {
-    g <= 50 && g % 10 == 0
+    let n = f.size();
+    let t = transpose(alloc, f)?;
+    let mut u = vec![in alloc; 0i128; n]?;
+    let mut x = vec![in alloc; 0i64; n]?;
+    let mut words = zeros(alloc, n)?;
+    match greatest_scale(f, &t, &mut u, &mut x, &mut words) {
+        Ok(g) => Ok(Pilot::new(g, n, words)),
+        Err(col) => Err(PilotError::Condition { col }),
+    }
 }
 
-fn are_small(words: &[i64]) -> bool
-    ensures { IsTrue result ↔ AllAtMost (2 ^ 50) words.now }
+/// The pilot of a working table: its columns at the greatest scale at which all of them stay in their bounds. Pivot and
+/// Condition come exactly where a table has none, with the first such row or column. The number of workers, from 1 to 16,
+/// has no effect yet.
+pub fn pilot<R: Threads + Sync, const N: usize>(
+    _rt: &R,
+    alloc: Global,
+    w: &Working<N>,
+    _workers: usize,
+) -> Result<Pilot, PilotError>
+    requires some_workers { 1 ≤ _workers }
+    requires few_workers { _workers ≤ 16 }
+    ensures value { IfOk result (IsPilot w.now.a.size (midpoints w.now.a)) }
+    ensures refused { IfErr result (IsRefused w.now.a.size (midpoints w.now.a)) }
 {
-    for k in 0..words.len() {
-        if words[k].unsigned_abs() > LIMIT {
-            return false;
-        }
-    }
-    true
-}
-
-impl Pilot {
-    pub(crate) fn made(g: u32, size: usize, words: Vec<i64>) -> Pilot
-        requires { IsKept (record { g = g; size = size; words = words.items }) }
-        ensures { result ≡ record { g = g; size = size; words = words.items } }
-    {
-        Pilot { g, size, words }
-    }
-
-    /// The pilot with these words, row by row, and None exactly where `g` is no scale, a word passes 2^50 in size, or
-    /// there are not `size * size` words.
-    pub fn from_words(g: u32, size: usize, words: Vec<i64>) -> Option<Pilot>
-        ensures { SomeIff result (IsKept (record { g = g; size = size; words = words.items })) (record { g = g; size = size; words = words.items }) }
-    {
-        if is_scale(g) && size.checked_mul(size) == Some(words.len()) && are_small(&words) {
-            Some(Pilot { g, size, words })
-        } else {
-            None
-        }
-    }
-
-    /// The scale.
-    pub fn g(&self) -> u32
-        ensures value { result ≡ self.now.g }
-        ensures scale { IsScale result }
-    {
-        self.g
-    }
-
-    /// How many rows and columns the table has.
-    pub fn size(&self) -> usize
-        ensures { result ≡ self.now.size }
-    {
-        self.size
-    }
-
-    /// The words of a row.
-    pub fn row(&self, i: usize) -> &[i64]
-        requires { i < self.now.size }
-        ensures len { length result.now ≡ self.now.size }
-        ensures words { (k : ℕ) → k < self.now.size → at result.now k ≡ pilot_word self.now i k }
-        ensures small { AllAtMost (2 ^ 50) result.now }
-    {
-        &self.words[i * self.size..(i + 1) * self.size]
-    }
-
-    /// The word of row `i` and column `k`.
-    pub fn word(&self, i: usize, k: usize) -> i64
-        requires row { i < self.now.size }
-        requires column { k < self.now.size }
-        ensures value { result ≡ pilot_word self.now i k }
-        ensures small { unsigned_abs result ≤ 2 ^ 50 }
-    {
-        self.row(i)[k]
-    }
+    let midpoints = midpoint_square(alloc, w)?;
+    let f = factor(midpoints)?;
+    pilot_of(alloc, &f)
 }

@@ -4,5 +4,6 @@ pub mod Vectors
 pub mod ErrorParts
 pub mod VectorParts
 pub mod Defects
+pub mod Inputs
 pub mod CertificateLists
 pub mod EnclosureErrors

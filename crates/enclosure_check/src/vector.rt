@@ -13,8 +13,8 @@ ghost use Rattle.enclosure_check.specs.declared.VectorError.TheVariants.{Memory}
 ghost use Rattle.stated_order.specs.First.{IsLeast};
 
 use crate::VectorError;
-use crate::errors::word_at;
-use chol_guess::Pilot;
+use crate::row_errors::word_at;
+use enclosures::Pilot;
 use equil::Working;
 use std::alloc::{AllocError, AllocFailed, Global};
 use whole_numbers::{product, shift_floor};

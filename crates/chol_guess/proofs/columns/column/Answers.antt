@@ -1,6 +1,6 @@
 use Rattle.std.proofs.Common.{arith}
 use Rattle.std.proofs.lemmas.Bool.{OnFalse_at, OnFalse_from}
-use Rattle.chol_factor.specs.Factor.{factor_word}
+use Rattle.whole_numbers.specs.Squares.{square_at}
 use Rattle.whole_numbers.specs.Lists.{at}
 use Rattle.chol_guess.proofs.Alone.{column_stops}
 use Rattle.chol_guess.proofs.columns.column.Goals as goal
@@ -14,4 +14,4 @@ go_down-requires-clause-start c = record {
 
 pub returns-then-go_up-clause-none : goal.returns-then-go_up-clause-none
 returns-then-go_up-clause-none c =
-    OnFalse_from c.go_down.result _ (λ stopped y. column_stops c.args.f.now.size (factor_word c.args.f.now) c.args.g c.args.c (at c.go_up.new.u) y c.if-go_up.ensures.up (OnFalse_at stopped c.go_down.ensures.none))
+    OnFalse_from c.go_down.result _ (λ stopped y. column_stops c.args.f.now.size (square_at c.args.f.now) c.args.g c.args.c (at c.go_up.new.u) y c.if-go_up.ensures.up (OnFalse_at stopped c.go_down.ensures.none))

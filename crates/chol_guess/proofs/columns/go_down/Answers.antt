@@ -1,7 +1,7 @@
 use Rattle.std.proofs.Common.{◌≡◌, ◌-◌, suc, arith, rules, subst, FitsSigned}
 use Rattle.std.specs.Int.{w64}
 use Rattle.std.proofs.lemmas.Int.{to_z-of_z}
-use Rattle.chol_factor.specs.Factor.{factor_word}
+use Rattle.whole_numbers.specs.Squares.{square_at}
 use Rattle.whole_numbers.specs.Lists.{at}
 use Rattle.chol_guess.specs.Rows.{IsDownFrom}
 use Rattle.chol_guess.proofs.Alone.{down_stops}
@@ -11,7 +11,7 @@ use Rattle.chol_guess.proofs.columns.go_down.Goals as goal
 pub loop-i-preserved : goal.loop-i-preserved
 loop-i-preserved c =
     let n = c.args.f.now.size in
-    let f = factor_word c.args.f.now in
+    let f = square_at c.args.f.now in
     let i = c.loop-i.i - 1 in
     let fits : FitsSigned w64 c.in-Some.next = search rules in
     let next : c.loop-i.i ≡ suc i = omega arith in
@@ -21,7 +21,7 @@ loop-i-preserved c =
 pub returns-in-None-clause-none : goal.returns-in-None-clause-none
 returns-in-None-clause-none c =
     let n = c.args.f.now.size in
-    let f = factor_word c.args.f.now in
+    let f = square_at c.args.f.now in
     let i = c.loop-i.i - 1 in
     let next : c.loop-i.i ≡ suc i = omega arith in
     let so_far = subst (λ m. IsDownFrom n m f (at c.args.u.now) (at c.loop-i.x)) next c.loop-i.invariant in
