@@ -5,7 +5,8 @@ use Rattle.std.proofs.Math.IntN.{◌-ℤ◌}
 use Rattle.whole_numbers.specs.Sum.{sum_to}
 use Rattle.chol_factor.specs.Factor.{fixed_product, fixed_quotient, left_of, IsRoot, IsColumn, HasColumns, IsPivot}
 use Rattle.chol_factor.proofs.Alone.{no_pivot_below}
-use Rattle.chol_guess.specs.Pilots.{PilotTable, IsPilot, IsCondition}
+use Rattle.chol_guess.specs.Pilots.{IsPilot, IsCondition}
+use Rattle.enclosures.specs.Pilots.{PilotTable}
 
 -- the numbers of n rows and n columns are equal
 abbrev pub SameSquare : ℕ → (ℕ → ℕ → ℤ) → (ℕ → ℕ → ℤ) → Type 0

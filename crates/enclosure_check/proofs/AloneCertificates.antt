@@ -6,10 +6,10 @@ use Rattle.whole_numbers.specs.Intervals.{Interval, size, interval_sub, interval
 use Rattle.stated_order.proofs.FirstLaws.{neither_less}
 use Rattle.whole_numbers.proofs.IntervalLaws.{sum_intervals_same}
 use Rattle.sys_model.specs.Systems.{Table, row_parts, residual_interval, row_error, rho}
-use Rattle.chol_guess.specs.Pilots.{PilotTable, pilot_word}
+use Rattle.enclosures.specs.Pilots.{PilotTable, pilot_word}
 use Rattle.chol_guess.proofs.AlonePilots.{SameSquare}
 use Rattle.enclosure_check.specs.Certificates.{LeftFitsAfter, parts_of, error_of, IsCertified, IsResidual, IsDefect}
-use Rattle.enclosure_check.specs.declared.Radius.{Radius}
+use Rattle.enclosures.specs.declared.Radius.{Radius}
 use Rattle.enclosure_check.proofs.AloneVectors.{SameTable, SamePilot, flipped_below, flipped_table, flipped_pilot, least_alone}
 use Rattle.enclosure_check.proofs.CertificateLaws.{greatest_to_same, le-greatest_to}
 use Rattle.enclosure_check.proofs.DefectLaws.{row_parts_same}

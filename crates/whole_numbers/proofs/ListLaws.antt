@@ -23,4 +23,3 @@ each_push P xs n x d len before last k h =
           let f : k ≡ length xs = omega arith in
           subst (P k) (sym (ap (λ m. get_or (xs ++ x ∷ []) m d) f ∙ get_or_push xs x d (length xs) refl)) (subst (λ m. P m x) e last)
     ]
-
