@@ -3,12 +3,10 @@
 ghost use Rattle.std.specs.Prelude.{◌≡◌, ◌≤◌, ◌^◌, IfSome, length, slice_index_or, vec_len};
 ghost use Rattle.decimal_e.specs.Fractions.{IsAtMost};
 ghost use Rattle.whole_numbers.specs.Lists.{at};
-ghost use Rattle.enclosure_check.specs.Vectors.{IsSmall};
 
 use super::*;
-use chol_guess::Pilot;
 use decimal_e::Dec;
-use enclosure_check::{Enclosed, Radius};
+use enclosures::{Enclosed, Pilot, Radius};
 use equil::{Working, working};
 use interval_word::Iv;
 use std::alloc::Global;
