@@ -2,19 +2,27 @@
 -- the first row that can't be printed. No numbers are printed where there is such a row.
 use Rattle.std.proofs.Common.{◌≡◌, ◌≤◌, ◌<◌, ◌^◌, inl, inr, ◌∙◌, ℕ, suc, ℤ, pos, List, length, arith, sym, ap, subst, ext_get_or}
 use Rattle.std.proofs.Math.IntN.{◌-ℤ◌}
-use Rattle.whole_numbers.specs.Intervals.{Interval, size, interval_mul}
+use Rattle.whole_numbers.specs.Intervals.{Interval, size, interval_sub, interval_mul}
 use Rattle.stated_order.proofs.FirstLaws.{neither_less}
 use Rattle.whole_numbers.proofs.Sums.{total_part, total_to_same}
 use Rattle.whole_numbers.proofs.IntervalLaws.{sum_intervals_same}
 use Rattle.decimal_e.specs.Decimals.{Decimal}
 use Rattle.sys_model.specs.Systems.{Table}
-use Rattle.enclosure_check.proofs.AloneVectors.{SameTable, flipped_below}
-use Rattle.enclosure_check.proofs.AloneCertificates.{sub_same}
 use Rattle.bounds_report.specs.Printing.{IsPrintable, working_difference, DifferencesFit, estimate_residual, lower_of, upper_of, estimate_of, numbers_at, ArePrinted}
 use Rattle.bounds_report.specs.Refusals.{IsFirstUnprintable, IsFirstFar, IsPrintRefused}
 use Rattle.bounds_report.specs.declared.PrintError.TheVariants.{Range}
 use Rattle.bounds_report.specs.declared.numbers.Printed.{Printed}
 use Rattle.whole_numbers.specs.Lists.{SameBelow}
+
+pub record SameTable (n : ℕ) (t u : Table) : Type 0 where
+  pub entries : (i j : ℕ) → i < n → j < n → t.entry i j ≡ u.entry i j
+  pub rights : (i : ℕ) → i < n → t.right i ≡ u.right i
+
+flipped_below : (n : ℕ) (y z : ℕ → ℤ) → SameBelow n y z → SameBelow n z y
+flipped_below n y z same i row = sym (same i row)
+
+sub_same : (w v x y : Interval) → w ≡ v → x ≡ y → interval_sub w x ≡ interval_sub v y
+sub_same w v x y e d = ap (λ a. interval_sub a x) e ∙ ap (λ b. interval_sub v b) d
 
 abbrev pub SameSizes : ℕ → (ℕ → ℕ) → (ℕ → ℕ) → Type 0
 SameSizes n w v = (i : ℕ) → i < n → w i ≡ v i
