@@ -75,6 +75,7 @@ impl<const N: usize> SymBlock<N> {
     pub fn size(&self) -> usize
         ensures value { result ≡ self.now.size }
         ensures bound { result ≤ 1000 }
+        ensures whole { length self.now.words ≡ before self.now.size }
     {
         self.size
     }
