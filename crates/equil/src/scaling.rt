@@ -2,7 +2,7 @@
 
 ghost use Rattle.std.specs.Prelude.{◌≡◌, ◌≤◌, ◌<◌, ◌+◌, ◌*◌, ◌^◌, ℕ, ℤ, pos, negsuc, ◌-ℤ◌, neg_ℤ, ◌≤ℤ◌, List, length, slice_index_or, SomeIff, IfOk, IfErr, IfSome, IfNone};
 ghost use Rattle.std.specs.Vec.{vec_len};
-ghost use Rattle.sym_blocks.specs.Tables.{SymTable, word, zero_interval};
+ghost use Rattle.sym_blocks.specs.Tables.{SymTable, before, word, zero_interval};
 ghost use Rattle.equil.specs.Exponents.{IsExponent, IsInRange};
 ghost use Rattle.equil.specs.Refusals.{IfRange};
 ghost use Rattle.equil.specs.Rows.{AllInRange, AreScaled, IsRowScaled, IsRightScaled, KeepsRows};
@@ -94,6 +94,7 @@ fn scale_row<const N: usize>(
     ensures size { a.new.size ≡ a.old.size }
     ensures kept { KeepsRows i a.old a.new }
     ensures whole { IfNone result (IsRowScaled i (i + 1) a.new (word table.now) (exponent_of e.now)) }
+    ensures list { length a.old.words ≡ before a.old.size → length a.new.words ≡ before a.new.size }
     ensures past { IfSome result (IsFirstFailure (i + 1) (EntryFits (word table.now) (exponent_of e.now) i)) }
 {
     for j in 0..i + 1 {
@@ -114,6 +115,7 @@ pub fn scaled_table<const N: usize>(
     requires len { length e.now ≡ table.now.size }
     requires range { AllInRange e.now }
     ensures size { IfOk result (λ a. a.size ≡ table.now.size) }
+    ensures list { IfOk result (λ a. length a.words ≡ before a.size) }
     ensures scaled { IfOk result (λ a. AreScaled table.now.size a (word table.now) (exponent_of e.now)) }
     ensures past { IfErr result (IfRange (IsFirstLowerFailure table.now.size (EntryFits (word table.now) (exponent_of e.now)))) }
 {
