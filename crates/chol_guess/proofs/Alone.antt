@@ -9,7 +9,8 @@ use Rattle.whole_numbers.proofs.Sums.{sum_to_same}
 use Rattle.chol_factor.specs.Factor.{fixed_product, fixed_quotient, HasColumns, IsPivot}
 use Rattle.chol_factor.proofs.Alone.{equal_fixed_products, equal_fixed_quotients, factor_alone, no_pivot_below}
 use Rattle.chol_guess.specs.Columns.{up_left, down_left, IsUp, IsDown, IsInverseColumn, StayInBounds}
-use Rattle.chol_guess.specs.Pilots.{PilotTable, IsPilot, IsCondition, nearest, pilot_word}
+use Rattle.chol_guess.specs.Pilots.{IsPilot, IsCondition, nearest}
+use Rattle.enclosures.specs.Pilots.{PilotTable, pilot_word}
 use Rattle.chol_guess.specs.Rows.{QuotientFits, IsDownFrom}
 
 -- two tables have the same words up to the diagonal, in the rows below n

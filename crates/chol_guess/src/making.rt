@@ -8,9 +8,9 @@ ghost use Rattle.chol_guess.specs.Refusals.{IsRefused};
 
 use crate::PilotError;
 use crate::grids::{transpose, zeros};
-use crate::pilots::Pilot;
 use crate::scales::greatest_scale;
 use chol_factor::{Factor, FactorError, factor};
+use enclosures::Pilot;
 use equil::Working;
 use std::alloc::Global;
 use std::thread::Threads;
@@ -28,7 +28,7 @@ pub fn pilot_of(alloc: Global, f: &Factor) -> Result<Pilot, PilotError>
     let mut x = vec![in alloc; 0i64; n]?;
     let mut words = zeros(alloc, n)?;
     match greatest_scale(f, &t, &mut u, &mut x, &mut words) {
-        Ok(g) => Ok(Pilot::made(g, n, words)),
+        Ok(g) => Ok(Pilot::new(g, n, words)),
         Err(col) => Err(PilotError::Condition { col }),
     }
 }

@@ -7,9 +7,9 @@ use Rattle.stated_order.specs.First.{IsLeast}
 use Rattle.stated_order.proofs.FirstLaws.{neither_less, least_is_one}
 use Rattle.whole_numbers.proofs.ListLaws.{equal_lists}
 use Rattle.sys_model.specs.Systems.{Table, rho}
-use Rattle.chol_guess.specs.Pilots.{PilotTable}
+use Rattle.enclosures.specs.Pilots.{PilotTable}
 use Rattle.enclosure_check.specs.Certificates.{LeftFitsAfter, parts_of, error_of, IsCertified, IsResidual, IsDefect}
-use Rattle.enclosure_check.specs.declared.Radius.{Radius}
+use Rattle.enclosures.specs.declared.Radius.{Radius}
 use Rattle.enclosure_check.proofs.CertificateLaws.{le-greatest_to}
 
 module _ (n : ℕ) (t : Table) (p : PilotTable) (y : ℕ → ℤ) where

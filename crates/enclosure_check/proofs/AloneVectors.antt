@@ -8,8 +8,9 @@ use Rattle.whole_numbers.specs.Sum.{sum_to}
 use Rattle.stated_order.proofs.FirstLaws.{neither_less}
 use Rattle.whole_numbers.proofs.Sums.{sum_to_same, total_part, total_to_same}
 use Rattle.sys_model.specs.Systems.{Table}
-use Rattle.chol_guess.specs.Pilots.{PilotTable, pilot_word}
-use Rattle.enclosure_check.specs.Vectors.{midpoint_residual, AllFitAfter, moved, IsTurn, IsSmall, AfterTurns, IsStartVector, IsVectorRange}
+use Rattle.enclosures.specs.Pilots.{PilotTable, pilot_word}
+use Rattle.enclosure_check.specs.Vectors.{midpoint_residual, AllFitAfter, moved, IsTurn, AfterTurns, IsStartVector, IsVectorRange}
+use Rattle.enclosures.specs.Vectors.{IsSmall}
 use Rattle.whole_numbers.specs.Intervals.{midpoint}
 use Rattle.whole_numbers.specs.Lists.{SameBelow}
 use Rattle.stated_order.specs.First.{IsLeast}

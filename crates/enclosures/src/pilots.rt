@@ -1,7 +1,7 @@
-//! The type of a pilot.
+//! The type of an approximate inverse.
 
 ghost use Rattle.std.specs.Prelude.{◌≡◌, ◌≤◌, ◌<◌, ◌+◌, ◌*◌, ◌^◌, ℕ, ℤ, List, length, unsigned_abs, SomeIff, IsTrue, ◌↔◌};
-ghost use Rattle.chol_guess.specs.Pilots.{PilotTable, IsScale, IsKept, pilot_word};
+ghost use Rattle.enclosures.specs.Pilots.{PilotTable, IsPilotScale, IsPilotTable, pilot_word};
 ghost use Rattle.whole_numbers.specs.Lists.{at, AllAtMost};
 
 use std::marker::Model;
@@ -9,7 +9,8 @@ use std::marker::Model;
 /// The greatest size of a word.
 const LIMIT: u64 = 1 << 50;
 
-/// A square table of words of at most 2^50 in size, in units of 2^-(g + 60), where `g` is 0, 10, 20, 30, 40 or 50.
+/// A pilot: an approximate inverse R of a table, as a square table of words of at most 2^50 in size, in units of
+/// 2^-(g + 60), where `g` is 0, 10, 20, 30, 40 or 50.
 #[derive(Drop)]
 pub struct Pilot {
     g: u32,
@@ -18,21 +19,23 @@ pub struct Pilot {
 }
 
 impl Model for Pilot {
-    ghost use Rattle.chol_guess.specs.Pilots.{PilotTable, IsKept};
+    ghost use Rattle.enclosures.specs.Pilots.{PilotTable, IsPilotTable};
 
     ghost Value = { PilotTable };
 
     ghost view = { λ p. record { g = p.g; size = p.size; words = p.words.items } };
 
-    ghost invariant = { λ p. IsKept (record { g = p.g; size = p.size; words = p.words.items }) };
+    ghost invariant = { λ p. IsPilotTable (record { g = p.g; size = p.size; words = p.words.items }) };
 }
 
+/// Whether a pilot may have this scale.
 fn is_scale(g: u32) -> bool
-    ensures { IsTrue result ↔ IsScale g }
+    ensures { IsTrue result ↔ IsPilotScale g }
 {
     g <= 50 && g % 10 == 0
 }
 
+/// Whether no word passes 2^50 in size.
 fn are_small(words: &[i64]) -> bool
     ensures { IsTrue result ↔ AllAtMost (2 ^ 50) words.now }
 {
@@ -45,8 +48,9 @@ fn are_small(words: &[i64]) -> bool
 }
 
 impl Pilot {
-    pub(crate) fn made(g: u32, size: usize, words: Vec<i64>) -> Pilot
-        requires { IsKept (record { g = g; size = size; words = words.items }) }
+    /// The pilot with these words, row by row. `from_words` tests what is required here.
+    pub fn new(g: u32, size: usize, words: Vec<i64>) -> Pilot
+        requires { IsPilotTable (record { g = g; size = size; words = words.items }) }
         ensures { result ≡ record { g = g; size = size; words = words.items } }
     {
         Pilot { g, size, words }
@@ -55,7 +59,7 @@ impl Pilot {
     /// The pilot with these words, row by row, and None exactly where `g` is no scale, a word passes 2^50 in size, or
     /// there are not `size * size` words.
     pub fn from_words(g: u32, size: usize, words: Vec<i64>) -> Option<Pilot>
-        ensures { SomeIff result (IsKept (record { g = g; size = size; words = words.items })) (record { g = g; size = size; words = words.items }) }
+        ensures { SomeIff result (IsPilotTable (record { g = g; size = size; words = words.items })) (record { g = g; size = size; words = words.items }) }
     {
         if is_scale(g) && size.checked_mul(size) == Some(words.len()) && are_small(&words) {
             Some(Pilot { g, size, words })
@@ -67,7 +71,7 @@ impl Pilot {
     /// The scale.
     pub fn g(&self) -> u32
         ensures value { result ≡ self.now.g }
-        ensures scale { IsScale result }
+        ensures scale { IsPilotScale result }
     {
         self.g
     }
