@@ -117,7 +117,7 @@ fn answer<const N: usize>(alloc: Global, row: &Row) -> Option<Result<Printed, Pr
     let x0 = apriori(row.apriori)?;
     let w = worked::<N>(alloc, row)?;
     let e = enclosed(alloc, row)?;
-    match printed(alloc, &[x0], &w, &e) {
+    match printed(alloc, &[x0], &[0], &w, &e) {
         Ok(rows) => rows.first().copied().map(Ok),
         Err(refusal) => Some(Err(refusal)),
     }

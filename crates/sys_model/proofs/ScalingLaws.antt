@@ -116,6 +116,10 @@ times_equal x y u v q r p s k some any h g same =
     let end = times_same x u q p _ (pos 0) none all in
     ap (λ a. x *ℤ pos a) (one p) ∙ sym end ∙ ap (λ a. u *ℤ pos a) (sym (one q))
 
+-- x times 10^b over the same denominator
+pub times_raised : (x : ℤ) (q b : ℕ) → TimesPower x q (pos b) (x *ℤ pos (10 ^ b)) q
+times_raised x q b = let e : 10 ^ b * (q * 1) ≡ q * 10 ^ b = omega arith in gathered x (10 ^ b) (q * 1) ∙ ap (λ z. x *ℤ pos z) e
+
 -- ---- a power that a denominator takes up
 -- x times 10^(K + k), over q times 10^K
 pub times_over : (x : ℤ) (q K : ℕ) (k : ℤ) → unsigned_abs k ≤ K → TimesPower x q k (x *ℤ pos (10 ^ unsigned_abs (pos K +ℤ k))) (q * 10 ^ K)

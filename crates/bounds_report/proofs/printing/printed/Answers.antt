@@ -7,7 +7,7 @@ new-requires g c =
     let w = c.args.w.now in
     let e = c.args.e.now in
     let q = c.requires in
-    let rows = are_rows w.a.size w.e.items c.args.apriori.now e.y.items e.radius.w.items (omega (arith, w.powers, w.e.ok.0)) q.len (omega (arith, q.vector, e.y.ok.0)) q.radii w.in_range q.modest q.small q.bounded in
+    let rows = are_rows w.a.size w.e.items c.args.scales.now c.args.apriori.now e.y.items e.radius.w.items (omega (arith, w.powers, w.e.ok.0)) q.scales q.len (omega (arith, q.vector, e.y.ok.0)) q.radii w.in_range q.scaled q.modest q.small q.bounded in
     rw (c.deref.ensures.value, c.deref-2.ensures.value, c.deref-3.ensures.value) rows
 
 pub returns-clause-printed : goal.returns-clause-printed
