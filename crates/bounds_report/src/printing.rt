@@ -5,7 +5,7 @@ ghost use Rattle.std.specs.Vec.{vec_len};
 ghost use Rattle.decimal_e.specs.Fractions.{IsAtMost};
 ghost use Rattle.equil.specs.Tables.{table_of};
 ghost use Rattle.whole_numbers.specs.Lists.{at};
-ghost use Rattle.enclosure_check.specs.Vectors.{IsSmall};
+ghost use Rattle.enclosures.specs.Radii.{radius_at};
 ghost use Rattle.bounds_report.specs.Printing.{decimal_at, row_power, AreScaleExponents, numbers_at, ArePrinted};
 ghost use Rattle.bounds_report.specs.Refusals.{IsPrintRefused};
 ghost use Rattle.bounds_report.specs.Residuals.{AreSmallIntervals, numbers_from, AreRowsPrinted, AreRowsRefused};
@@ -18,7 +18,7 @@ use crate::numbers::Printed;
 use crate::residuals::residual;
 use crate::rows::Rows;
 use decimal_e::Dec;
-use enclosure_check::Enclosed;
+use enclosures::Enclosed;
 use equil::Working;
 use interval_word::Iv;
 use std::alloc::{AllocError, Global};
@@ -104,16 +104,13 @@ pub fn printed<const N: usize>(
     w: &Working<N>,
     e: &Enclosed,
 ) -> Result<Vec<Printed>, PrintError>
+    requires rows { e.now.pilot.size ≡ w.now.a.size }
     requires scales { length scales.now ≡ w.now.a.size }
     requires scaled { AreScaleExponents scales.now }
     requires len { length apriori.now ≡ w.now.a.size }
     requires modest { (i : ℕ) → i < length apriori.now → IsAtMost (10 ^ 12) (decimal_at apriori.now i) }
-    requires vector { vec_len e.now.y ≡ w.now.a.size }
-    requires small { IsSmall w.now.a.size (at e.now.y.items) }
-    requires radii { length e.now.radius.w.items ≡ w.now.a.size }
-    requires bounded { (i : ℕ) → i < w.now.a.size → slice_index_or e.now.radius.w.items i 0 ≤ 2 ^ 97 }
-    ensures printed { IfOk result (λ ps. ArePrinted w.now.a.size (table_of w.now.a w.now.d.items) (row_power w.now.e.items scales.now) (decimal_at apriori.now) (at e.now.y.items) (λ i. slice_index_or e.now.radius.w.items i 0) ps.items) }
-    ensures refused { IfErr result (IsPrintRefused w.now.a.size (row_power w.now.e.items scales.now) (decimal_at apriori.now) (at e.now.y.items) (λ i. slice_index_or e.now.radius.w.items i 0)) }
+    ensures printed { IfOk result (λ ps. ArePrinted w.now.a.size (table_of w.now.a w.now.d.items) (row_power w.now.e.items scales.now) (decimal_at apriori.now) (at e.now.y.items) (radius_at e.now.radius) ps.items) }
+    ensures refused { IfErr result (IsPrintRefused w.now.a.size (row_power w.now.e.items scales.now) (decimal_at apriori.now) (at e.now.y.items) (radius_at e.now.radius)) }
 {
     rows_printed(
         alloc,
