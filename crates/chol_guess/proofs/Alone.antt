@@ -201,3 +201,7 @@ condition_alone n m c d a b =
     let low : ¬ (c < d) = λ h. a.here (stay_same n b.f a.f 0 (suc c) (factors_same n m b.f a.f b.factor a.factor) (λ k l. b.before k (omega arith))) in
     let high : ¬ (d < c) = λ h. b.here (stay_same n a.f b.f 0 (suc d) (factors_same n m a.f b.f a.factor b.factor) (λ k l. a.before k (omega arith))) in
     omega arith
+
+-- a table whose pilot is refused has a factor
+pub condition_no_pivot : (n : ℕ) (m : ℕ → ℕ → ℤ) (c j : ℕ) → IsCondition n m c → IsPivot n m j → ⊥
+condition_no_pivot n m c j a b = no_pivot_below n m a.f j n a.factor b b.within
