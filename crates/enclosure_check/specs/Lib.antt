@@ -1,3 +1,5 @@
+-- A stranger reads Certificates, Vectors, Answers and Inputs, and CertificateLists for the calls in parts. Defects,
+-- ErrorParts, VectorParts and EnclosureErrors serve private functions alone.
 pub mod Certificates
 pub mod Answers
 pub mod Vectors

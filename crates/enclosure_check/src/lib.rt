@@ -1,5 +1,5 @@
 //! The certificate of a linear system whose words are intervals: a start vector, the residual test, and with it bounds
-//! between which every solution of every system in the words lies (Rump 2010).
+//! between which every solution of every system in the words lies.
 #![tactic(auto)]
 
 use thiserror::Error;
@@ -26,7 +26,7 @@ pub use vector::start_vector;
 /// Why a working table has no start vector.
 #[derive(Clone, Copy, Debug, PartialEq, Eq, Error)]
 pub enum VectorError {
-    /// After a turn the sizes of the vector pass 2^64 in sum, at this row first.
+    /// After a refinement the sizes of the vector pass 2^64 in sum, at this row first.
     #[error("the start vector passes its bound in row {row}")]
     Range { row: usize },
     /// Memory is wanting.

@@ -1,4 +1,4 @@
-//! What the pilot times the table leaves of the unit table.
+//! The defects of all rows: what the approximate inverse R, the pilot, times the table leaves of the identity.
 
 ghost use Rattle.std.specs.Prelude.{◌≡◌, ◌≤◌, ◌<◌, ◌+◌, ◌*◌, ◌^◌, ℕ, pos, ◌+ℤ◌, ◌-ℤ◌, List, length, unsigned_abs, FitsSigned, IfOk};
 ghost use Rattle.std.specs.Int.{w128};
@@ -156,7 +156,7 @@ fn column_products<const N: usize>(a: &SymBlock<N>, r: &[i64], j: usize) -> Ends
 }
 
 /// The defect of row `i`, in parts of 2^30, rounded up: the sum of the greatest sizes of what the pilot times the table
-/// leaves of the unit table, each taken as a whole where it is more. It takes no memory.
+/// leaves of the identity, each taken as a whole where it is more. It takes no memory.
 pub fn row_defect<const N: usize>(w: &Working<N>, p: &Pilot, i: usize) -> u64
     requires sizes { p.now.size ≡ w.now.a.size }
     requires row { i < w.now.a.size }

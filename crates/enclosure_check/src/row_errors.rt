@@ -1,4 +1,4 @@
-//! What the pilot makes of what a vector leaves of the right side.
+//! The errors of all rows: what the approximate inverse R, the pilot, makes of the residual of a vector.
 
 ghost use Rattle.std.specs.Prelude.{◌≡◌, ◌≤◌, ◌<◌, ◌^◌, ◌↔◌, ℕ, length, IfOk, IsTrue};
 ghost use Rattle.whole_numbers.specs.Intervals.{size, sum_intervals};
@@ -7,7 +7,7 @@ ghost use Rattle.whole_numbers.specs.Lists.{at};
 ghost use Rattle.equil.specs.Tables.{table_of};
 ghost use Rattle.enclosure_check.specs.Certificates.{AreErrors};
 ghost use Rattle.enclosure_check.specs.Inputs.{IsWorkingTable, IsRightSide};
-ghost use Rattle.enclosure_check.specs.ErrorParts.{IsVector, taken_interval, AreLeft, FitAfter, AreShifted, IsRowByWords, part_interval, word_at, AreShiftedLeft, shifted_error, AreShiftedErrors};
+ghost use Rattle.enclosure_check.specs.ErrorParts.{IsVector, taken_interval, AreResiduals, FitAfter, AreShifted, IsRowByWords, part_interval, word_at, AreShiftedResiduals, shifted_error, AreShiftedErrors};
 ghost use Rattle.enclosures.specs.Vectors.{IsSmall};
 ghost use Rattle.stated_order.specs.First.{IsLeast};
 
@@ -53,7 +53,7 @@ fn taken<const N: usize>(a: &SymBlock<N>, y: &[i128], i: usize) -> Iv
     sum
 }
 
-/// What the vector leaves of the right side in row `i`.
+/// The residual of the vector in row `i`.
 fn residual_interval<const N: usize>(a: &SymBlock<N>, d: &[Iv], y: &[i128], i: usize) -> Iv
     requires words { IsWorkingTable a.now }
     requires rights { IsRightSide a.now.size d.now }
@@ -65,7 +65,7 @@ fn residual_interval<const N: usize>(a: &SymBlock<N>, d: &[Iv], y: &[i128], i: u
     word_at(d, i).sub(&taken(a, y, i))
 }
 
-/// What the vector leaves of the right side, row by row.
+/// The residual of the vector, row by row.
 fn residual_intervals<const N: usize>(
     alloc: Global,
     a: &SymBlock<N>,
@@ -75,7 +75,7 @@ fn residual_intervals<const N: usize>(
     requires words { IsWorkingTable a.now }
     requires rights { IsRightSide a.now.size d.now }
     requires vector { IsVector a.now.size y.now }
-    ensures { IfOk result (λ v. AreLeft a.now.size (table_of a.now d.now) (at y.now) v.items) }
+    ensures { IfOk result (λ v. AreResiduals a.now.size (table_of a.now d.now) (at y.now) v.items) }
 {
     let mut words = Vec::new(alloc);
     for i in 0..a.size() {
@@ -155,7 +155,7 @@ fn two_to(k: u32) -> u128
 
 /// The error of row `i`: what the pilot makes of the words that were shifted by `h`, rounded up.
 fn row_error(p: &Pilot, words: &[Iv], h: u32, i: usize) -> u128
-    requires sizes { AreShiftedLeft p.now.size words.now }
+    requires sizes { AreShiftedResiduals p.now.size words.now }
     requires few { h ≤ 60 }
     requires row { i < p.now.size }
     ensures { result ≡ shifted_error p.now words.now h i }
@@ -167,7 +167,7 @@ fn row_error(p: &Pilot, words: &[Iv], h: u32, i: usize) -> u128
 
 /// The errors of all rows, from what the vector leaves shifted by `h`.
 fn errors_of(alloc: Global, p: &Pilot, words: &[Iv], h: u32) -> Result<Vec<u128>, AllocError>
-    requires sizes { AreShiftedLeft p.now.size words.now }
+    requires sizes { AreShiftedResiduals p.now.size words.now }
     requires few { h ≤ 60 }
     ensures { IfOk result (λ v. AreShiftedErrors p.now words.now h v.items) }
 {

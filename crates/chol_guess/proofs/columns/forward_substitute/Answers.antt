@@ -5,7 +5,7 @@ use Rattle.whole_numbers.specs.Squares.{square_at}
 use Rattle.whole_numbers.specs.Lists.{at}
 use Rattle.chol_guess.proofs.Alone.{up_stops}
 use Rattle.chol_guess.proofs.Steps.{cleared_up, up_more}
-use Rattle.chol_guess.proofs.columns.go_up.Goals as goal
+use Rattle.chol_guess.proofs.columns.forward_substitute.Goals as goal
 
 pub loop-i-init : goal.loop-i-init
 loop-i-init c = cleared_up (square_at c.args.f.now) c.args.g c.args.c (at c.clear.new.u) c.clear.ensures

@@ -2,7 +2,7 @@ use Rattle.std.proofs.Common.{◌≡◌, ◌+◌, ◌-◌, ◌*◌, suc, arith, 
 use Rattle.std.proofs.lemmas.Int.{ints}
 use Rattle.whole_numbers.specs.Squares.{square_at}
 use Rattle.chol_guess.proofs.Steps.{later_is}
-use Rattle.chol_guess.proofs.columns.down_left.Goals as goal
+use Rattle.chol_guess.proofs.columns.back_left.Goals as goal
 
 pub returns : goal.returns
 returns c =

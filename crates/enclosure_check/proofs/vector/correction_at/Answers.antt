@@ -2,7 +2,7 @@ use Rattle.std.proofs.Common.{◌+◌, ◌-◌, rules, FitsSigned}
 use Rattle.std.specs.Int.{w128}
 use Rattle.std.proofs.lemmas.Int.{to_z-of_z}
 use Rattle.enclosure_check.proofs.VectorLaws.{change_small, change_is}
-use Rattle.enclosure_check.proofs.vector.change_at.Goals as goal
+use Rattle.enclosure_check.proofs.vector.correction_at.Goals as goal
 
 pub returns : goal.returns
 returns c =

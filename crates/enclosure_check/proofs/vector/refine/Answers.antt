@@ -1,10 +1,10 @@
 use Rattle.std.proofs.lemmas.Result.{MatchResult-weaker}
 use Rattle.equil.specs.Tables.{table_of}
 use Rattle.enclosure_check.proofs.VectorLaws.{IsMade, made_numbers, made_turned, made_refused}
-use Rattle.enclosure_check.proofs.vector.turn.Goals as goal
+use Rattle.enclosure_check.proofs.vector.refine.Goals as goal
 
-pub moved-requires-clause-numbers : goal.moved-requires-clause-numbers
-moved-requires-clause-numbers g c =
+pub corrected-requires-clause-numbers : goal.corrected-requires-clause-numbers
+corrected-requires-clause-numbers g c =
     let w = c.args.w.now in
     let t = table_of w.a w.d.items in
     let qs = c.in_ok-numbers.numbers.items in
@@ -33,5 +33,5 @@ returns g c =
       least = rw c.deref.ensures.value at c.least_shift-h.ensures.least;
       floors = rw c.deref-2.ensures.value at c.in_ok-shifted.ensures;
     } in
-    let moved = rw c.deref-3.ensures.value at c.moved.ensures in
-    MatchResult-weaker c.moved.result moved (λ z. made_turned w.a.size t p y qs vs h made z.items) (made_refused w.a.size t p y qs vs h made)
+    let moved = rw c.deref-3.ensures.value at c.corrected.ensures in
+    MatchResult-weaker c.corrected.result moved (λ z. made_turned w.a.size t p y qs vs h made z.items) (made_refused w.a.size t p y qs vs h made)

@@ -4,7 +4,7 @@ use Rattle.whole_numbers.proofs.Division.{two_pow_small}
 use Rattle.whole_numbers.specs.Squares.{square_at}
 use Rattle.whole_numbers.specs.Lists.{at}
 use Rattle.chol_guess.proofs.Steps.{earlier_is, left_here, left_past}
-use Rattle.chol_guess.proofs.columns.up_left.Goals as goal
+use Rattle.chol_guess.proofs.columns.forward_left.Goals as goal
 
 pub returns-then-i-c : goal.returns-then-i-c
 returns-then-i-c c =
