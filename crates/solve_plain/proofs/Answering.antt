@@ -1,9 +1,12 @@
 -- What the calls of the steps answer is the answer of the rules.
-use Rattle.std.proofs.Common.{◌≡◌, ◌⊎◌, inl, inr, ◌∙◌, length, Ok, Err, refl, sym, ap, subst}
+use Rattle.std.proofs.Common.{◌≡◌, ◌⊎◌, inl, inr, ◌∙◌, ℤ, List, length, Ok, Err, refl, ap}
 use Rattle.stated_order.specs.First.{HoldsLower, IsFirstFailure, IsFirstLowerFailure}
 use Rattle.plain_rows.specs.Plain.{PlainFile}
 use Rattle.stack_rules.specs.Rules as rules
-use Rattle.stack_rules.specs.Stacks.{Stack}
+use Rattle.stack_rules.specs.Stacks.{Stack, stack_of}
+use Rattle.whole_numbers.specs.Intervals.{Interval}
+use Rattle.decimal_e.specs.Decimals.{Decimal}
+use Rattle.sym_blocks.specs.Tables.{SymTable}
 use Rattle.stack_rules.specs.declared.StackError.{StackError}
 use Rattle.solve_plain.specs.Files.{EntryIsModest, RightIsModest}
 use Rattle.solve_plain.specs.Refusals.{of_stack}
@@ -40,3 +43,7 @@ module _ (p : PlainFile) (s : Stack) (given : IsStackStep p (Ok s)) where
         | inl e ↦ inl (ap of_stack e)
         | inr r ↦ inr (inl (record { gives = s; given = given; onward = record { given = Err x; rules = r; is = refl } }))
       ]
+
+-- equal lists make one stack
+pub same_stack : (t : SymTable) (ds es : List Interval) (xs ys : List Decimal) (ts us : List ℤ) → ds ≡ es → xs ≡ ys → ts ≡ us → stack_of t ds xs ts ≡ stack_of t es ys us
+same_stack t ds es xs ys ts us right apriori scales = ap (λ l. stack_of t l xs ts) right ∙ ap (λ l. stack_of t es l ts) apriori ∙ ap (λ l. stack_of t es ys l) scales

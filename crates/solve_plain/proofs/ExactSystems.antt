@@ -55,8 +55,11 @@ module _ (p : PlainFile) where
   exact_system = record { q = 10 ^ powers; a = λ i j. over powers (matrix_of p i j); c = λ i. over powers (vector_of p.rows i) }
 
   pub exact_exists : (S : System) × IsExact p S
-  exact_exists = (exact_system, record {
-    some = ten_pow_above powers;
-    matrix = λ i j row column. over_means powers (matrix_of p i j) (entry_power i j row column);
-    right = λ i row. over_means powers (vector_of p.rows i) (right_power i row);
-  })
+  exact_exists = (
+    exact_system,
+    record {
+      some = ten_pow_above powers;
+      matrix = λ i j row column. over_means powers (matrix_of p i j) (entry_power i j row column);
+      right = λ i row. over_means powers (vector_of p.rows i) (right_power i row);
+    },
+  )
