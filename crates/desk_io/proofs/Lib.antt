@@ -1,1 +1,2 @@
+mod OutputLists
 mod WholeFiles

@@ -8,9 +8,10 @@ use Rattle.desk_io.specs.declared.desk.DeskError.TheVariants.{Fault}
 abbrev pub Rose : ℕ → ℕ → Type 0
 Rose before now = min (before + 1) (2 ^ 64 - 1) ≤ now
 
--- The count of faults never falls, and a call answers Fault only where it rose.
+-- The count of faults never falls. A call answers Fault only where it rose, and Ok only where it is as before.
 pub record HasCause {T : Type 0} (before now : ℕ) (result : Result T DeskError) : Type 0 where
   pub later : before ≤ now
+  pub unchanged : OnOk result (now ≡ before)
   pub fault : IsErrOf result Fault → Rose before now
 
 -- An open answers whether there is a file of that name, and all of its bytes are then left to read.

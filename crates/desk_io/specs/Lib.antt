@@ -1,4 +1,5 @@
 pub mod Content
 pub mod Desk
 pub mod MemDesk
+pub mod Outputs
 pub mod Whole

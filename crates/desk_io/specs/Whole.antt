@@ -1,6 +1,7 @@
 -- Whole files: what reading one answers, and what writing one leaves.
-use Rattle.std.specs.Prelude.{◌≡◌, ◌⊎◌, ℕ, true, false, List, length, nat_lt, if◌then◌else◌, Some, None, Result, Ok, Err, OnOk, OnErr, Option, Vec}
+use Rattle.std.specs.Prelude.{◌≡◌, ◌⊎◌, ◌≤◌, ℕ, true, false, List, length, nat_lt, if◌then◌else◌, Some, None, Result, Ok, Err, OnOk, OnErr, IsErrOf, Option, Vec}
 use Rattle.desk_io.specs.Content.{File, Content, SameBut, KeepsAll, IsFront}
+use Rattle.desk_io.specs.Desk.{Rose}
 use Rattle.desk_io.specs.declared.desk.DeskError.{DeskError}
 use Rattle.desk_io.specs.declared.desk.DeskError.TheVariants as desk
 use Rattle.desk_io.specs.declared.whole.ReadError.{ReadError}
@@ -27,6 +28,15 @@ Refuses errors.TooLong read = read ≡ Err errors.TooLong
 abbrev pub Answers : {A : Type 0} → Result (Vec ℕ A) ReadError → Result (List ℕ) ReadError → Type 0
 Answers (Ok text) read = read ≡ Ok text.items
 Answers (Err e) read = Refuses e read
+
+-- The count of faults never falls. It rose where the answer is a fault, and is as before where it tells the
+-- file's text, or that there is none or that it is too long.
+pub record HasReadCause {T : Type 0} (before now : ℕ) (result : Result T ReadError) : Type 0 where
+  pub later : before ≤ now
+  pub fault : IsErrOf result errors.Fault → Rose before now
+  pub unchanged : OnOk result (now ≡ before)
+  pub no_file : IsErrOf result errors.NoFile → now ≡ before
+  pub too_long : IsErrOf result errors.TooLong → now ≡ before
 
 -- The file holds a prefix of the text, and isn't finished.
 abbrev pub HoldsPart : List ℕ → List ℕ → Content → Type 0

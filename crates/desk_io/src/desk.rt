@@ -17,7 +17,8 @@ pub enum DeskError {
 }
 
 /// Files and lines, as the program sees them. A desk counts its faults, and answers `Fault` only where that
-/// count rose. A refused call leaves what the desk tells of itself (`facts`) as it was.
+/// count rose and `Ok` only where it didn't. A refused call leaves what the desk tells of itself (`facts`) as
+/// it was.
 pub trait Desk {
     /// Whether a desk of this type tells its content.
     ghost tells: { Bool };

@@ -1,5 +1,7 @@
 // Desks and whole files, on worked calls.
-use crate::{Desk, DeskError, MemDesk, ReadError, StdDesk, read_all, write_file};
+use crate::{
+    Desk, DeskError, MemDesk, Output, ReadError, StdDesk, read_all, write_file, write_outputs,
+};
 use std::alloc::{AllocError, Global};
 use std::fs;
 use std::test::Fail;
@@ -58,6 +60,43 @@ fn whole_files_are_written(rt: HostRuntime) -> Result<(), Fail> {
     let part = desk.file("part").ok_or("no file")?;
     assert_eq!(rt; part.len(), 65541);
     assert!(rt; text.starts_with(part));
+    Ok(())
+}
+
+fn output<'a>(alloc: Global, name: &'a str, text: &[u8]) -> Result<Output<'a>, AllocError> {
+    Ok(Output {
+        name,
+        text: Vec::from_slice(alloc, text)?,
+    })
+}
+
+#[test]
+fn outputs_are_written_in_order(rt: HostRuntime) -> Result<(), Fail> {
+    let alloc = rt.alloc();
+    let outputs = [
+        output(alloc, "first", b"12345678")?,
+        output(alloc, "second", b"abcd")?,
+        output(alloc, "third", b"")?,
+    ];
+    let mut desk = MemDesk::new(alloc, vec![in alloc; 13]?);
+    write_outputs(&mut desk, &outputs)?;
+    assert_eq!(rt;
+        desk.file("first"),
+        Some(b"12345678".as_slice()),
+        "calls 1 to 3"
+    );
+    assert_eq!(rt;
+        desk.file("second"),
+        Some(b"abcd".as_slice()),
+        "calls 4 to 6"
+    );
+    assert_eq!(rt; desk.file("third"), Some(b"".as_slice()), "calls 7 and 8");
+    desk.add_file("third", b"as before")?;
+    let answer = write_outputs(&mut desk, &outputs);
+    assert_eq!(rt; answer, Err(DeskError::Fault), "calls 9 to 13");
+    assert_eq!(rt; desk.file("first"), Some(b"12345678".as_slice()));
+    assert_eq!(rt; desk.file("second"), Some(b"ab".as_slice()), "a half");
+    assert_eq!(rt; desk.file("third"), Some(b"as before".as_slice()));
     Ok(())
 }
 
@@ -127,4 +166,5 @@ fn types_cross_threads(rt: HostRuntime) {
     crosses_threads::<ReadError>();
     moves(&MemDesk::new(rt.alloc(), Vec::new(rt.alloc())));
     moves(&StdDesk::new(&rt));
+    crosses_threads::<Output<'_>>();
 }

@@ -16,7 +16,7 @@ loop-at-preserved g c =
     record {
       within = omega arith;
       facts = grind arith;
-      later = omega arith;
+      unchanged = grind arith;
       so_far = λ tells. written_to c.args.name.now c.args.text.now c.loop-at.at _ _ _ _ _ le (c.loop-at.invariant.so_far tells) (c.in_ok-write.ensures.content tells);
     }
 

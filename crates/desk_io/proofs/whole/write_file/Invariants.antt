@@ -8,7 +8,7 @@ abbrev pub invariant-loop-at : goal.invariant-loop-at
 invariant-loop-at g l = record {
   within : l.at ≤ length l.text;
   facts : g.D.Desk.facts l.desk ≡ with_writing (g.D.Desk.facts l.fn.desk) true;
-  later : g.D.Desk.faults l.fn.desk ≤ g.D.Desk.faults l.desk;
+  unchanged : g.D.Desk.faults l.desk ≡ g.D.Desk.faults l.fn.desk;
   so_far : IsTrue g.D.Desk.tells → HasWritten l.name (take l.at l.text) (g.D.Desk.content l.fn.desk) (g.D.Desk.content l.desk);
 }
 
