@@ -1,4 +1,5 @@
-pub mod Names
-pub mod Runs
+pub mod RunLaws
 pub mod Texts
+pub mod Unknowns
 pub mod Verdicts
+pub mod Words

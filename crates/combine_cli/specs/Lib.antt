@@ -1,5 +1,7 @@
 pub mod Headline
-pub mod Lines
 pub mod Plan
+pub mod Refusals
 pub mod Report
+pub mod Runs
 pub mod Verdict
+pub mod Worked

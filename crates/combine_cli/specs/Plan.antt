@@ -1,46 +1,38 @@
--- What a run decides before it writes or says anything.
-use Rattle.std.specs.Prelude.{◌≡◌, ◌⊎◌, ◌++◌, ◌∷◌, ℕ, List, [], length, true, false, nat_lt, Option, Some}
-use Rattle.desk_io.specs.Content.{File, Content, IsFront}
-use Rattle.combine_cli.specs.Verdict.{Output, Refusal, Outcome, StoppedAt, line_of, is_solve, file_limit}
+-- For private functions alone: what a run decides before it writes or says anything.
+use Rattle.std.specs.Prelude.{◌≡◌, ◌≢◌, ◌≤◌, ◌∷◌, ℕ, List, [], length, Some, Option, Result, Ok, Err}
+use Rattle.desk_io.specs.Content.{File}
+use Rattle.desk_io.specs.Outputs.{NamedText}
+use Rattle.combine_cli.specs.Refusals.{status_of}
+use Rattle.stated_order.specs.Steps.{Then}
+use Rattle.combine_cli.specs.Verdict.{Outcome, FileNames, AreSolve, ReadsText, Solves, file_limit}
 use Rattle.combine_cli.specs.Headline.{IsCertifiedReport}
-use Rattle.combine_cli.specs.declared.decide.Plan.{Plan}
-use Rattle.combine_cli.specs.declared.decide.Stop.{Stop}
-use Rattle.combine_cli.specs.declared.decide.Stop.TheVariants as stops
+use Rattle.combine_cli.specs.declared.decide.Names.{Names}
+use Rattle.combine_cli.specs.declared.refusal.Refusal.{Refusal}
 
-abbrev pub output_of : Plan → Output
-output_of plan = record { name = plan.name.now; text = plan.text.items }
+-- the names of a command in memory
+abbrev pub names_in : Names → FileNames
+names_in names = record { from = names.from.now; to = names.to.now }
 
--- A stop that refuses has a refusal, and P holds of it.
-abbrev pub Refuses : Stop → (Refusal → Type 0) → Type 0
-Refuses (stops.Refused status line) P = P (record { status = status; line = line.items })
-Refuses stops.Fault P = Unit {0}
-Refuses stops.Memory P = Unit {0}
+-- the status of an answer: 0, or that of its refusal
+abbrev pub status_in : {T : Type 0} → Result T Refusal → ℕ
+status_in (Ok x) = 0
+status_in (Err refusal) = status_of refusal
 
--- A refusal has a status of its own.
-abbrev pub IsRefusalStatus : ℕ → Type 0
-IsRefusalStatus status = (status ≡ 2) ⊎ (status ≡ 3) ⊎ (status ≡ 6)
+-- P holds of a refusal that tells neither of want of memory nor of a fault, which come in the place of any other
+abbrev pub IfTold : (Refusal → Type 0) → Refusal → Type 0
+IfTold P refusal = status_of refusal ≢ 4 → status_of refusal ≢ 5 → P refusal
 
--- The words are `solve` and two different names.
-pub record IsSolve (words : List (List ℕ)) (from to : List ℕ) : Type 0 where
-  pub command : List ℕ
-  pub words_are : words ≡ command ∷ from ∷ to ∷ []
-  pub solve : is_solve command from to ≡ true
+-- the steps of the verdict from the text on
+abbrev pub IsTextVerdict : FileNames → List ℕ → Outcome → Type 0
+IsTextVerdict names text = Then (ReadsText names.from text) (λ plain. Solves names plain)
 
--- The words name this output and a file that is short enough, and the text is a certified report of the file's bytes.
-pub record IsPlanned (words : List (List ℕ)) (files : List ℕ → Option File) (output : Output) : Type 0 where
-  pub from : List ℕ
+-- The words name this output and a file that is short enough, and the output is a certified report of the file's bytes.
+pub record IsPlanned (words : List (List ℕ)) (files : List ℕ → Option File) (outputs : List NamedText) : Type 0 where
+  pub names : FileNames
+  pub solve : AreSolve words names
   pub input : File
-  pub names : IsSolve words from output.name
-  pub read : files from ≡ Some input
-  pub short : nat_lt file_limit (length input.bytes) ≡ false
-  pub certified : IsCertifiedReport input.bytes output.text
-
--- Of the bytes a prefix was said, and nothing else changed that stays.
-pub record SaysPart (bytes : List ℕ) (old new : Content) : Type 0 where
-  pub files : new.files ≡ old.files
-  pub said : (part : List ℕ) × IsFront part bytes × (new.said ≡ old.said ++ part)
-
--- The run was cut short and nothing was said of it yet.
-pub record CutShort (outcome : Outcome) (old new : Content) : Type 0 where
-  pub files : StoppedAt outcome old.files new.files
-  pub said : (part : List ℕ) × IsFront part (line_of outcome) × (new.said ≡ old.said ++ part)
+  pub read : files names.from ≡ Some input
+  pub short : length input.bytes ≤ file_limit
+  pub report : List ℕ
+  pub certified : IsCertifiedReport input.bytes report
+  pub outputs_are : outputs ≡ record { name = names.to; text = report } ∷ []

@@ -5,6 +5,7 @@ use Rattle.plain_rows.specs.Plain.{row_label}
 use Rattle.plain_rows.specs.declared.Parameter.{Parameter}
 use Rattle.plain_rows.specs.declared.Row.{Row}
 use Rattle.bounds_report.specs.declared.numbers.Printed.{Printed}
+use Rattle.solve_plain.specs.Solving.{Numbers}
 
 -- a number below 10^16 in 16 digits
 abbrev pub sixteen_digits : ℕ → List ℕ
@@ -37,3 +38,7 @@ bounds_lines k rows ns = []
 abbrev pub report_text : ℕ → ℕ → ℕ → List (List ℕ) → List ℕ
 report_text g parts error lines =
     codes "SNXCOMB BOUNDS 1\n" ++ (certificate_line g parts error (length lines) ++ (flat_map (λ line. line) lines ++ codes "END\n"))
+
+-- the report of these rows and the rules' numbers
+abbrev pub numbers_report : List Row → Numbers → List ℕ
+numbers_report rows n = report_text n.g n.parts n.error (bounds_lines 0 rows n.rows)

@@ -1,121 +1,77 @@
--- What a run is to do: a relation of its words, the files by name and its outcome, and of nothing else.
-use Rattle.std.specs.Prelude.{◌≡◌, ◌⊎◌, ◌++◌, ◌∷◌, ◌^◌, ◌&&◌, ℕ, Bool, List, [], length, true, nat_lt, not, MatchBool, Some, None, Option, Result, Ok, Err, codes}
-use Rattle.std.specs.Str.{bytes_eq}
-use Rattle.desk_io.specs.Content.{File, Content, SameBut, IsFront}
+-- What a run is to do: a relation of its words, the files by name and its outcome, and of nothing else. It is said as steps in
+-- their order: the words, the file, its text, the rules. The first that refuses gives the outcome.
+use Rattle.std.specs.Prelude.{◌≡◌, ◌≢◌, ◌⊎◌, ◌≤◌, ◌<◌, ◌∷◌, ◌^◌, ℕ, List, [], length, Some, None, Option, Result, Ok, Err, codes}
+use Rattle.stated_order.specs.Steps.{Then}
+use Rattle.desk_io.specs.Content.{File}
+use Rattle.desk_io.specs.Outputs.{NamedText}
 use Rattle.plain_rows.specs.Plain.{PlainFile, IsPlainForm}
-use Rattle.solve_plain.specs.Solving.{Numbers, IsSolved, IsRefusal}
+use Rattle.solve_plain.specs.Solving.{Numbers, IsAnswer}
 use Rattle.solve_plain.specs.declared.SolveError.{SolveError}
-use Rattle.combine_cli.specs.Lines.{refusal_line}
-use Rattle.combine_cli.specs.Report.{bounds_lines, report_text}
+use Rattle.combine_cli.specs.Refusals.{refusal_of}
+use Rattle.combine_cli.specs.Report.{numbers_report}
+use Rattle.combine_cli.specs.declared.refusal.Refusal.{Refusal}
+use Rattle.combine_cli.specs.declared.refusal.Refusal.TheVariants.{Words, NoFile, TooLong, Unbuilt}
 
--- The text of an output, under its name.
-pub record Output : Type 0 where
-  pub name : List ℕ
-  pub text : List ℕ
-
--- A refusal, with the line that is said.
-pub record Refusal : Type 0 where
-  pub status : ℕ
-  pub line : List ℕ
-
+-- The outcome of a run: the outputs that it writes, in their order, or why it refuses.
 abbrev pub Outcome : Type 0
-Outcome = Result Output Refusal
+Outcome = Result (List NamedText) Refusal
+
+-- ---- the words
+
+-- the files that a command names: the one that is read, and the one that is written
+pub record FileNames : Type 0 where
+  pub from : List ℕ
+  pub to : List ℕ
+
+-- The words are `solve` and two different names.
+pub record AreSolve (words : List (List ℕ)) (names : FileNames) : Type 0 where
+  pub words_are : words ≡ codes "solve" ∷ names.from ∷ names.to ∷ []
+  pub differ : names.from ≢ names.to
+
+-- a command, or words that are none
+abbrev pub ReadsWords : List (List ℕ) → Result FileNames Refusal → Type 0
+ReadsWords words (Ok names) = AreSolve words names
+ReadsWords words (Err refusal) = ((names : FileNames) → ¬ (AreSolve words names)) × (refusal ≡ Words)
+
+-- The words name this file as one that is written.
+abbrev pub NamesOutput : List (List ℕ) → List ℕ → Type 0
+NamesOutput words name = (names : FileNames) × AreSolve words names × (name ≡ names.to)
+
+-- ---- the file
 
 -- a file of more bytes than this is too long: 64 MiB
 abbrev pub file_limit : ℕ
 file_limit = 2 ^ 26
 
-abbrev pub no_command : Refusal
-no_command = record { status = 2; line = codes "snxcomb: words\n" }
+-- The bytes of the file of that name, if there is one and it is not too long.
+abbrev pub ReadsFile : List ℕ → Option File → Result (List ℕ) Refusal → Type 0
+ReadsFile name None result = result ≡ Err (NoFile name)
+ReadsFile name (Some file) result =
+    ((length file.bytes ≤ file_limit) × (result ≡ Ok file.bytes)) ⊎ ((file_limit < length file.bytes) × (result ≡ Err (TooLong name)))
 
-abbrev pub no_file : List ℕ → Refusal
-no_file name = record { status = 3; line = codes "snxcomb: no file " ++ (name ++ codes "\n") }
+-- ---- its text
 
-abbrev pub too_long : List ℕ → Refusal
-too_long name = record { status = 3; line = codes "snxcomb: too long " ++ (name ++ codes "\n") }
+-- What the text says, if it is in the plain form. Every other text of that file is not built yet.
+abbrev pub ReadsText : List ℕ → List ℕ → Result PlainFile Refusal → Type 0
+ReadsText name text (Ok plain) = IsPlainForm text plain
+ReadsText name text (Err refusal) = ((plain : PlainFile) → ¬ (IsPlainForm text plain)) × (refusal ≡ Unbuilt name)
 
-abbrev pub unbuilt : List ℕ → Refusal
-unbuilt name = record { status = 3; line = codes "snxcomb: unbuilt " ++ (name ++ codes "\n") }
+-- ---- the rules
 
-abbrev pub memory_line : List ℕ
-memory_line = codes "snxcomb: memory\n"
+-- the report of the rules' numbers, or the refusal for their cause
+abbrev pub outcome_of : FileNames → PlainFile → Result Numbers SolveError → Outcome
+outcome_of names plain (Ok numbers) = Ok (record { name = names.to; text = numbers_report plain.rows numbers } ∷ [])
+outcome_of names plain (Err cause) = Err (refusal_of names.from plain.rows cause)
 
-abbrev pub desk_line : List ℕ
-desk_line = codes "snxcomb: desk\n"
+-- The outcome is what the rules answer to the file.
+abbrev pub Solves : FileNames → PlainFile → Outcome → Type 0
+Solves names plain outcome = (answer : Result Numbers SolveError) × IsAnswer plain answer × (outcome ≡ outcome_of names plain answer)
 
--- a number's range, or the certificate
-abbrev pub uncertified : List ℕ → PlainFile → SolveError → Refusal
-uncertified name p cause = record { status = 6; line = refusal_line name p.rows cause }
-
--- The text is in the plain form, the rules give these numbers for its normal equations, and the report tells them.
-pub record IsReported (text report : List ℕ) : Type 0 where
-  pub plain : PlainFile
-  pub solved : Numbers
-  pub reads : IsPlainForm text plain
-  pub solves : IsSolved plain solved
-  pub tells : report ≡ report_text solved.g solved.parts solved.error (bounds_lines 0 plain.rows solved.rows)
-
--- The text is in the plain form, and the rules refuse its normal equations with this cause.
-pub record IsUncertified (text : List ℕ) (plain : PlainFile) (cause : SolveError) : Type 0 where
-  pub reads : IsPlainForm text plain
-  pub refused : IsRefusal plain cause
-
--- A text in the plain form is answered with its report, or with the first cause of the rules. Every other one is not built yet.
-abbrev pub IsVerdictOnText : List ℕ → List ℕ → List ℕ → Outcome → Type 0
-IsVerdictOnText from to text outcome =
-    ((report : List ℕ) × IsReported text report × (outcome ≡ Ok (record { name = to; text = report })))
-    ⊎ (((plain : PlainFile) × (cause : SolveError) × IsUncertified text plain cause × (outcome ≡ Err (uncertified from plain cause)))
-    ⊎ (((plain : PlainFile) → IsPlainForm text plain → ⊥) × (outcome ≡ Err (unbuilt from))))
-
--- A file that isn't there and one that is too long are refused before anything of them is read.
-abbrev pub IsVerdictOnFile : List ℕ → List ℕ → Option File → Outcome → Type 0
-IsVerdictOnFile from to None outcome = outcome ≡ Err (no_file from)
-IsVerdictOnFile from to (Some file) outcome = MatchBool (nat_lt file_limit (length file.bytes)) (outcome ≡ Err (too_long from)) (IsVerdictOnText from to file.bytes outcome)
-
--- the words of a command: `solve` with two different names
-abbrev pub is_solve : List ℕ → List ℕ → List ℕ → Bool
-is_solve command from to = bytes_eq command (codes "solve") && not (bytes_eq from to)
+-- ---- all steps, in their order
 
 abbrev pub IsVerdict : List (List ℕ) → (List ℕ → Option File) → Outcome → Type 0
-IsVerdict (command ∷ from ∷ to ∷ []) files outcome = MatchBool (is_solve command from to) (IsVerdictOnFile from to (files from) outcome) (outcome ≡ Err no_command)
-IsVerdict words files outcome = outcome ≡ Err no_command
-
--- The file of that name holds this text, whole, and all else is as before.
-pub record Written (output : Output) (old new : Content) : Type 0 where
-  pub file : new.files output.name ≡ Some (record { bytes = output.text; finished = true })
-  pub others : SameBut output.name old new
-  pub said : new.said ≡ old.said
-
--- The line was said, and no file was created.
-pub record Refused (line : List ℕ) (old new : Content) : Type 0 where
-  pub files : new.files ≡ old.files
-  pub said : new.said ≡ old.said ++ line
-
--- what a run of this status leaves, by its verdict
-abbrev pub Leaves : ℕ → Outcome → Content → Content → Type 0
-Leaves status (Ok output) old new = (status ≡ 0) × Written output old new
-Leaves status (Err refusal) old new = (status ≡ refusal.status) × Refused refusal.line old new
-
--- the line of a verdict
-abbrev pub line_of : Outcome → List ℕ
-line_of (Ok output) = []
-line_of (Err refusal) = refusal.line
-
--- the output's file is as before, or holds a prefix of its text, and all other files are as before
-abbrev pub StoppedAt : Outcome → (List ℕ → Option File) → (List ℕ → Option File) → Type 0
-StoppedAt (Ok output) old new =
-    ((other : List ℕ) → (other ≡ output.name → ⊥) → new other ≡ old other)
-    × ((new output.name ≡ old output.name)
-    ⊎ ((part : List ℕ) × (finished : Bool) × IsFront part output.text × (new output.name ≡ Some (record { bytes = part; finished = finished }))))
-StoppedAt (Err refusal) old new = new ≡ old
-
--- What a run that was cut short leaves: of what it was to say some prefix, then a prefix of the line of want of memory and
--- one of the line of a fault.
-pub record Stopped (outcome : Outcome) (old new : Content) : Type 0 where
-  pub files : StoppedAt outcome old.files new.files
-  pub said : (line memory fault : List ℕ) × IsFront line (line_of outcome) × IsFront memory memory_line × IsFront fault desk_line
-      × (new.said ≡ ((old.said ++ line) ++ memory) ++ fault)
-
--- the statuses that a run answers
-abbrev pub IsStatus : ℕ → Type 0
-IsStatus status = (status ≡ 0) ⊎ (status ≡ 2) ⊎ (status ≡ 3) ⊎ (status ≡ 4) ⊎ (status ≡ 5) ⊎ (status ≡ 6)
+IsVerdict words files =
+    Then (ReadsWords words) (λ names.
+    Then (ReadsFile names.from (files names.from)) (λ text.
+    Then (ReadsText names.from text) (λ plain.
+    Solves names plain)))

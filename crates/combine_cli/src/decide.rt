@@ -1,19 +1,23 @@
 // What a run is to do, decided before it writes or says anything.
-ghost use Rattle.std.specs.Prelude.{◌≡◌, ◌≢◌, ◌≤◌, ◌++◌, ℕ, List, map, codes, IsTrue, IsErrOf, IfErr, IfOk, MatchOption, Option, Ok, Err, string_bytes};
-ghost use Rattle.desk_io.specs.Content.{File, KeepsAll};
-ghost use Rattle.desk_io.specs.Desk.{Rose};
-ghost use Rattle.desk_io.specs.Whole.{reading};
+ghost use Rattle.std.specs.Prelude.{◌≡◌, ◌≢◌, ◌∷◌, ◌&&◌, not, codes, [], ℕ, List, Option, map, IsTrue, IfErr, IfOk, Ok, Err, string_bytes};
+ghost use Rattle.std.specs.Str.{bytes_eq};
+ghost use Rattle.desk_io.specs.Content.{KeepsAll};
+ghost use Rattle.desk_io.specs.Outputs.{named_text};
 ghost use Rattle.plain_rows.specs.Plain.{IsPlainForm};
 ghost use Rattle.solve_plain.specs.Files.{file_of};
-ghost use Rattle.combine_cli.specs.Lines.{refusal_line};
-ghost use Rattle.combine_cli.specs.Verdict.{file_limit, no_command, IsVerdict, IsVerdictOnFile, IsVerdictOnText};
+ghost use Rattle.solve_plain.specs.Solving.{IsAnswer};
+ghost use Rattle.solve_plain.specs.declared.SolveError.{SolveError};
+ghost use Rattle.combine_cli.specs.Refusals.{status_of, unknown_at, refusal_of};
+ghost use Rattle.combine_cli.specs.Verdict.{file_limit, IsVerdict, ReadsWords, ReadsFile, ReadsText};
+ghost use Rattle.combine_cli.specs.Runs.{HasStatusCause};
 ghost use Rattle.combine_cli.specs.Headline.{IsCertifiedReport};
-ghost use Rattle.combine_cli.specs.Plan.{output_of, Refuses, IsRefusalStatus, IsSolve, IsPlanned};
+ghost use Rattle.combine_cli.specs.Plan.{names_in, status_in, IfTold, IsTextVerdict, IsPlanned};
 
-use crate::lines::refusal_line;
+use crate::name::Name;
+use crate::refusal::{Refusal, Scope};
 use crate::report::report;
-use desk_io::{Desk, ReadError, read_all};
-use plain_rows::{Plain, Row, read_plain};
+use desk_io::{Desk, Output, ReadError, read_all};
+use plain_rows::{Parameter, Plain, Row, read_plain};
 use solve_plain::{SolveError, solve};
 use std::alloc::{AllocError, Global};
 use std::thread::Threads;
@@ -21,95 +25,134 @@ use std::thread::Threads;
 // The most bytes of a file: 64 MiB.
 const FILE_LIMIT: usize = 67_108_864;
 
-// The text of an output, under its name.
-#[derive(Drop)]
-pub(crate) struct Plan<'a> {
-    pub(crate) name: &'a str,
-    pub(crate) text: Vec<u8>,
-}
-
-// Why a run writes nothing.
-#[derive(Drop)]
-pub(crate) enum Stop {
-    Refused { status: u8, line: Vec<u8> },
-    Fault,
-    Memory,
-}
-
-// The names of a command: of the file that is read and of the one that is written.
+// The files that a command names: the one that is read, and the one that is written.
 #[derive(Clone, Copy)]
 struct Names<'a> {
     from: &'a str,
     to: &'a str,
 }
 
-// The names of `solve IN REPORT`, or none where the words aren't that.
-fn solve_names(words: &[String]) -> Option<Names<'_>>
-    ensures { MatchOption result
-        ((files : List ℕ → Option File) → IsVerdict (map string_bytes words.now) files (Err no_command))
-        (λ names. IsSolve (map string_bytes words.now) names.from.now names.to.now) }
+// Whether the words are `solve` and two different names.
+fn is_solve(command: &str, from: &str, to: &str) -> bool
+    ensures { result ≡ (bytes_eq command.now (codes "solve") && not (bytes_eq from.now to.now)) }
+{
+    command == "solve" && from != to
+}
+
+// The names of `solve IN REPORT`.
+fn read_words(words: &[String]) -> Result<Names<'_>, Refusal>
+    ensures names { IfOk result (λ names. ReadsWords (map string_bytes words.now) (Ok (names_in names))) }
+    ensures refused { IfErr result (λ refusal. ReadsWords (map string_bytes words.now) (Err refusal)) }
 {
     let [command, from, to] = words else {
-        return None;
+        return Err(Refusal::Words);
     };
-    if command.as_str() != "solve" || from.as_str() == to.as_str() {
-        return None;
+    let (from, to) = (from.as_str(), to.as_str());
+    if is_solve(command.as_str(), from, to) {
+        Ok(Names { from, to })
+    } else {
+        Err(Refusal::Words)
     }
-    Some(Names {
-        from: from.as_str(),
-        to: to.as_str(),
-    })
 }
 
-// A refusal's line: what it says, a name and the line's end.
-fn file_line(alloc: Global, what: &[u8], name: &str) -> Result<Vec<u8>, AllocError>
-    ensures { IfOk result (λ line. line.items ≡ what.now ++ (name.now ++ codes "\n")) }
+// A file's name, for its refusal.
+fn named(alloc: Global, from: &str) -> Result<Name, Refusal>
+    ensures name { IfOk result (λ name. name ≡ from.now) }
+    ensures memory { IfErr result (λ refusal. refusal ≡ Refusal.Memory) }
 {
-    let mut line = Vec::from_slice(alloc, what)?;
-    line.extend_from_slice(name.as_bytes())?;
-    line.push(b'\n')?;
-    Ok(line)
-}
-
-fn refusal(alloc: Global, status: u8, what: &[u8], name: &str) -> Stop
-    requires { IsRefusalStatus status }
-    ensures line { Refuses result (λ r. r ≡ record { status = status; line = what.now ++ (name.now ++ codes "\n") }) }
-    ensures status { Refuses result (λ r. IsRefusalStatus r.status) }
-    ensures no_fault { result ≢ Stop.Fault }
-{
-    match file_line(alloc, what, name) {
-        Ok(line) => Stop::Refused { status, line },
-        Err(_) => Stop::Memory,
+    match Name::copied(alloc, from) {
+        Ok(name) => Ok(name),
+        Err(_) => Err(Refusal::Memory),
     }
 }
 
 // The bytes of the file of that name.
-fn input<D: Desk>(alloc: Global, from: &str, desk: &mut D) -> Result<Vec<u8>, Stop>
-    ensures text { IsTrue D.tells → IfOk result (λ text. reading ((D.content desk.old).files from.now) file_limit ≡ Ok text.items) }
-    ensures refused { IsTrue D.tells → IfErr result (λ stop. Refuses stop (λ r. (to : List ℕ) → IsVerdictOnFile from.now to ((D.content desk.old).files from.now) (Err r))) }
+fn read_file<D: Desk>(alloc: Global, from: &str, desk: &mut D) -> Result<Vec<u8>, Refusal>
+    ensures text { IsTrue D.tells → IfOk result (λ text. ReadsFile from.now ((D.content desk.old).files from.now) (Ok text.items)) }
+    ensures refused { IsTrue D.tells → IfErr result (IfTold (λ refusal. ReadsFile from.now ((D.content desk.old).files from.now) (Err refusal))) }
     ensures keeps { IsTrue D.tells → KeepsAll (D.content desk.old) (D.content desk.new) }
-    ensures status { IfErr result (λ stop. Refuses stop (λ r. IsRefusalStatus r.status)) }
-    ensures later { D.faults desk.old ≤ D.faults desk.new }
-    ensures fault { IsErrOf result Stop.Fault → Rose (D.faults desk.old) (D.faults desk.new) }
+    ensures cause { HasStatusCause (D.faults desk.old) (D.faults desk.new) (status_in result) }
 {
     match read_all(alloc, desk, from, FILE_LIMIT) {
         Ok(text) => Ok(text),
-        Err(ReadError::NoFile) => Err(refusal(alloc, 3, b"snxcomb: no file ", from)),
-        Err(ReadError::TooLong) => Err(refusal(alloc, 3, b"snxcomb: too long ", from)),
-        Err(ReadError::Fault) => Err(Stop::Fault),
-        Err(ReadError::Memory) => Err(Stop::Memory),
+        Err(ReadError::NoFile) => Err(Refusal::NoFile {
+            name: named(alloc, from)?,
+        }),
+        Err(ReadError::TooLong) => Err(Refusal::TooLong {
+            name: named(alloc, from)?,
+        }),
+        Err(ReadError::Fault) => Err(Refusal::Desk),
+        Err(ReadError::Memory) => Err(Refusal::Memory),
     }
 }
 
-// The refusal of the rules for this cause.
-fn uncertified(alloc: Global, from: &str, rows: &[Row], cause: SolveError) -> Stop
-    ensures line { Refuses result (λ r. r ≡ record { status = 6; line = refusal_line from.now rows.now cause }) }
-    ensures cause { Refuses result (λ r. cause ≢ SolveError.Memory) }
-    ensures no_fault { result ≢ Stop.Fault }
+// What the text of that file says.
+fn read_text(alloc: Global, from: &str, text: &[u8]) -> Result<Plain, Refusal>
+    ensures plain { IfOk result (λ plain. ReadsText from.now text.now (Ok (file_of plain))) }
+    ensures refused { IfErr result (IfTold (λ refusal. ReadsText from.now text.now (Err refusal))) }
+    ensures no_fault { IfErr result (λ refusal. status_of refusal ≢ 5) }
 {
-    match refusal_line(alloc, from, rows, cause) {
-        Ok(line) => Stop::Refused { status: 6, line },
-        Err(_) => Stop::Memory,
+    match read_plain(alloc, text) {
+        Ok(Some(plain)) => Ok(plain),
+        Ok(None) => Err(Refusal::Unbuilt {
+            name: named(alloc, from)?,
+        }),
+        Err(_) => Err(Refusal::Memory),
+    }
+}
+
+// The unknown of row k, counted from 0.
+fn unknown_at(rows: &[Row], k: usize) -> Parameter
+    ensures { result ≡ unknown_at rows.now k }
+{
+    match rows.get(k) {
+        Some(row) => row.parameter,
+        None => Parameter {
+            axis: 0,
+            code: [0; 4],
+        },
+    }
+}
+
+// The refusal for a cause of the rules, or that memory is wanting for the file's name.
+fn refusal_for(alloc: Global, from: &str, rows: &[Row], cause: SolveError) -> Refusal
+    ensures told { IfTold (λ refusal. refusal ≡ refusal_of from.now rows.now cause) result }
+    ensures no_fault { status_of result ≢ 5 }
+{
+    let place = Scope::Stack;
+    match cause {
+        SolveError::Words { row, col } => match Name::copied(alloc, from) {
+            Ok(name) => Refusal::Range {
+                place: Scope::File(name),
+                row: unknown_at(rows, row),
+                col: unknown_at(rows, col),
+            },
+            Err(_) => Refusal::Memory,
+        },
+        SolveError::Range { row, col } => Refusal::Range {
+            place,
+            row: unknown_at(rows, row),
+            col: unknown_at(rows, col),
+        },
+        SolveError::Pivot { row } => Refusal::Pivot {
+            place,
+            id: unknown_at(rows, row),
+        },
+        SolveError::Condition { col } => Refusal::Condition {
+            place,
+            id: unknown_at(rows, col),
+        },
+        SolveError::Residual { row, size } => Refusal::Residual {
+            place,
+            id: unknown_at(rows, row),
+            size,
+        },
+        SolveError::Defect { row, parts } => Refusal::Defect {
+            place,
+            id: unknown_at(rows, row),
+            parts,
+        },
+        SolveError::Memory => Refusal::Memory,
     }
 }
 
@@ -120,19 +163,18 @@ fn report_of<R: Threads + Sync>(
     from: &str,
     text: &[u8],
     plain: &Plain,
-) -> Result<Vec<u8>, Stop>
+) -> Result<Vec<u8>, Refusal>
     requires { IsPlainForm text.now (file_of plain.now) }
     ensures report { IfOk result (λ report. IsCertifiedReport text.now report.items) }
-    ensures refused { IfErr result (λ stop. Refuses stop (λ r. (to : List ℕ) → IsVerdictOnText from.now to text.now (Err r))) }
-    ensures status { IfErr result (λ stop. Refuses stop (λ r. r.status ≡ 6)) }
-    ensures no_fault { IfErr result (λ stop. stop ≢ Stop.Fault) }
+    ensures refused { IfErr result (IfTold (λ refusal. (cause : SolveError) × IsAnswer (file_of plain.now) (Err cause) × (refusal ≡ refusal_of from.now plain.now.rows.items cause))) }
+    ensures no_fault { IfErr result (λ refusal. status_of refusal ≢ 5) }
 {
     match solve(rt, alloc, plain, 1) {
         Ok(solved) => match report(alloc, &plain.rows, &solved) {
             Ok(text) => Ok(text),
-            Err(_) => Err(Stop::Memory),
+            Err(_) => Err(Refusal::Memory),
         },
-        Err(cause) => Err(uncertified(alloc, from, &plain.rows, cause)),
+        Err(cause) => Err(refusal_for(alloc, from, &plain.rows, cause)),
     }
 }
 
@@ -140,44 +182,41 @@ fn report_of<R: Threads + Sync>(
 fn report_on<R: Threads + Sync>(
     rt: &R,
     alloc: Global,
-    from: &str,
+    names: Names<'_>,
     text: &[u8],
-) -> Result<Vec<u8>, Stop>
+) -> Result<Vec<u8>, Refusal>
     ensures report { IfOk result (λ report. IsCertifiedReport text.now report.items) }
-    ensures refused { IfErr result (λ stop. Refuses stop (λ r. (to : List ℕ) → IsVerdictOnText from.now to text.now (Err r))) }
-    ensures status { IfErr result (λ stop. Refuses stop (λ r. IsRefusalStatus r.status)) }
-    ensures no_fault { IfErr result (λ stop. stop ≢ Stop.Fault) }
+    ensures refused { IfErr result (IfTold (λ refusal. IsTextVerdict (names_in names.entry) text.now (Err refusal))) }
+    ensures no_fault { IfErr result (λ refusal. status_of refusal ≢ 5) }
 {
-    match read_plain(alloc, text) {
-        Ok(Some(plain)) => report_of(rt, alloc, from, text, &plain),
-        Ok(None) => Err(refusal(alloc, 3, b"snxcomb: unbuilt ", from)),
-        Err(_) => Err(Stop::Memory),
-    }
+    let plain = read_text(alloc, names.from, text)?;
+    report_of(rt, alloc, names.from, text, &plain)
 }
 
-// The report that is to be written, or why none is. Nothing is said or created.
+// One output.
+fn single<'a>(alloc: Global, name: &'a str, text: Vec<u8>) -> Result<Vec<Output<'a>>, AllocError>
+    ensures { IfOk result (λ outputs. map named_text outputs.items ≡ record { name = name.now; text = text.items } ∷ []) }
+{
+    let mut outputs = Vec::new(alloc);
+    outputs.push(Output { name, text })?;
+    Ok(outputs)
+}
+
+// The outputs that are to be written, or why none is. Nothing is said or created.
 pub(crate) fn decide<'a, R: Threads + Sync, D: Desk>(
     rt: &R,
     alloc: Global,
     words: &'a [String],
     desk: &mut D,
-) -> Result<Plan<'a>, Stop>
-    ensures planned { IsTrue D.tells → IfOk result (λ plan. IsPlanned (map string_bytes words.now) (D.content desk.old).files (output_of plan)) }
-    ensures refused { IsTrue D.tells → IfErr result (λ stop. Refuses stop (λ r. IsVerdict (map string_bytes words.now) (D.content desk.old).files (Err r))) }
+) -> Result<Vec<Output<'a>>, Refusal>
+    ensures planned { IsTrue D.tells → IfOk result (λ outputs. IsPlanned (map string_bytes words.now) (D.content desk.old).files (map named_text outputs.items)) }
+    ensures refused { IsTrue D.tells → IfErr result (IfTold (λ refusal. IsVerdict (map string_bytes words.now) (D.content desk.old).files (Err refusal))) }
     ensures keeps { IsTrue D.tells → KeepsAll (D.content desk.old) (D.content desk.new) }
-    ensures status { IfErr result (λ stop. Refuses stop (λ r. IsRefusalStatus r.status)) }
-    ensures later { D.faults desk.old ≤ D.faults desk.new }
-    ensures fault { IsErrOf result Stop.Fault → Rose (D.faults desk.old) (D.faults desk.new) }
+    ensures cause { HasStatusCause (D.faults desk.old) (D.faults desk.new) (status_in result) }
 {
-    let Some(names) = solve_names(words) else {
-        return Err(refusal(alloc, 2, b"snxcomb: words", ""));
-    };
-    let text = input(alloc, names.from, desk)?;
-    match report_on(rt, alloc, names.from, &text) {
-        Ok(text) => Ok(Plan {
-            name: names.to,
-            text,
-        }),
-        Err(stop) => Err(stop),
-    }
+    let names = read_words(words)?;
+    let text = read_file(alloc, names.from, desk)?;
+    let report = report_on(rt, alloc, names, &text)?;
+    let outputs = single(alloc, names.to, report)?;
+    Ok(outputs)
 }

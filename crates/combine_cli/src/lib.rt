@@ -2,10 +2,18 @@
 #![tactic(auto)]
 
 mod decide;
-mod lines;
+mod laws;
+mod name;
+mod refusal;
 mod report;
 #[cfg(test)]
 mod tests;
 mod top;
 
+pub use laws::{
+    bounds_hold_their_solutions, exact_systems_are_as_written, refusals_are_told,
+    stopped_outputs_are_fronts,
+};
+pub use name::Name;
+pub use refusal::{Refusal, Scope, line, status};
 pub use top::run;

@@ -1,7 +1,7 @@
 // Runs over the desk in memory.
 
-use crate::run;
-use desk_io::MemDesk;
+use crate::{Name, Refusal, Scope, run};
+use desk_io::{Desk, DeskError, MemDesk};
 use std::alloc::{AllocError, Global};
 use std::process::Abort;
 use std::test::Fail;
@@ -342,4 +342,191 @@ fn faults(rt: HostRuntime) -> Result<(), Fail> {
     let mut desk = desk_with(alloc, ONE_STATION, vec![in alloc; 1, 2]?)?;
     ends(&rt, &mut desk, "", 5, "snxcombsnxcomb", None)?;
     Ok(())
+}
+
+// A desk in memory of whose calls those of the numbers in `wants` want memory.
+#[derive(Drop)]
+struct ShortDesk {
+    desk: MemDesk,
+    wants: Vec<u32>,
+    calls: u32,
+}
+
+// Counts a call, and says whether it wants memory.
+fn is_short(wants: &[u32], calls: &mut u32) -> bool {
+    *calls = calls.saturating_add(1);
+    wants.contains(calls)
+}
+
+impl Desk for ShortDesk {
+    ghost use Rattle.std.specs.Prelude.{false};
+    ghost use Rattle.desk_io.specs.Content.{no_content};
+    ghost use Rattle.desk_io.specs.MemDesk.{mem_facts};
+
+    ghost tells = { false };
+
+    ghost content = { λ _. no_content };
+
+    ghost facts = { λ d. mem_facts d.desk };
+
+    ghost faults = { λ d. d.desk.faults };
+
+    fn open(&mut self, name: &str) -> Result<bool, DeskError> {
+        if is_short(&self.wants, &mut self.calls) {
+            return Err(DeskError::Memory);
+        }
+        self.desk.open(name)
+    }
+
+    fn read(&mut self, into: &mut [u8]) -> Result<usize, DeskError> {
+        if is_short(&self.wants, &mut self.calls) {
+            return Err(DeskError::Memory);
+        }
+        self.desk.read(into)
+    }
+
+    fn create(&mut self, name: &str) -> Result<(), DeskError> {
+        if is_short(&self.wants, &mut self.calls) {
+            return Err(DeskError::Memory);
+        }
+        self.desk.create(name)
+    }
+
+    fn write(&mut self, bytes: &[u8]) -> Result<(), DeskError> {
+        if is_short(&self.wants, &mut self.calls) {
+            return Err(DeskError::Memory);
+        }
+        self.desk.write(bytes)
+    }
+
+    fn finish(&mut self) -> Result<(), DeskError> {
+        if is_short(&self.wants, &mut self.calls) {
+            return Err(DeskError::Memory);
+        }
+        self.desk.finish()
+    }
+
+    fn say(&mut self, bytes: &[u8]) -> Result<(), DeskError> {
+        if is_short(&self.wants, &mut self.calls) {
+            return Err(DeskError::Memory);
+        }
+        self.desk.say(bytes)
+    }
+}
+
+// Each run, with the calls that want memory, is told by the status and what is said, and leaves this in `rep`.
+#[test]
+fn memory_is_wanting(rt: HostRuntime) -> Result<(), Fail> {
+    let alloc = rt.alloc();
+    let memory = "snxcomb: memory\n";
+    for (line, first, second, fault, status, said, report) in [
+        ("solve in rep", 1, 0, 0, 4, memory, None),
+        ("solve in rep", 2, 0, 0, 4, memory, None),
+        ("solve in rep", 3, 0, 0, 4, memory, None),
+        ("solve in rep", 4, 0, 0, 4, memory, None),
+        ("solve in rep", 5, 0, 0, 4, memory, Some("")),
+        ("solve in rep", 6, 0, 0, 4, memory, Some(ONE_STATION_REPORT)),
+        ("solve in rep", 7, 0, 0, 0, "", Some(ONE_STATION_REPORT)),
+        ("solve in rep", 1, 2, 0, 4, "", None),
+        ("solve", 1, 0, 0, 4, memory, None),
+        ("solve", 2, 0, 0, 2, "snxcomb: words\n", None),
+        ("solve in rep", 1, 0, 1, 5, "snxcomb:snxcomb: desk\n", None),
+        ("solve in rep", 1, 3, 1, 5, "snxcomb:", None),
+    ] {
+        let mut desk = ShortDesk {
+            desk: desk_with(alloc, ONE_STATION, vec![in alloc; fault]?)?,
+            wants: vec![in alloc; first, second]?,
+            calls: 0,
+        };
+        let words = words_of(alloc, line)?;
+        assert_eq!(rt; run(&rt, alloc, &words, &mut desk), status);
+        assert_eq!(rt; desk.desk.said(), said.as_bytes());
+        assert_eq!(rt; desk.desk.file("rep"), report.map(|text| text.as_bytes()));
+    }
+    Ok(())
+}
+
+// A file of fifty stations: row k, counted from 0, has the a priori value 1000000 + 10 k, the vector element k mod 7, and in the
+// matrix 1000000 + k on the diagonal and -1000 to its left.
+fn fifty_stations(alloc: Global) -> Result<String, AllocError> {
+    let mut text = String::from_str(alloc, "%=SNX 2.02\n+SOLUTION/APRIORI\n")?;
+    for k in 0..150usize {
+        let label = label_of(alloc, k)?;
+        let value = 1_000_000 + 10 * k;
+        text.push_str(format!(in alloc; "{label} 2 {value:21} .000000E+00\n")?.as_str())?;
+    }
+    text.push_str("-SOLUTION/APRIORI\n+SOLUTION/NORMAL_EQUATION_VECTOR\n")?;
+    for k in 0..150usize {
+        let label = label_of(alloc, k)?;
+        let value = k % 7;
+        text.push_str(format!(in alloc; "{label} 2 {value:21}\n")?.as_str())?;
+    }
+    text.push_str("-SOLUTION/NORMAL_EQUATION_VECTOR\n+SOLUTION/NORMAL_EQUATION_MATRIX L\n")?;
+    for k in 0..150usize {
+        let index = k + 1;
+        let value = 1_000_000 + k;
+        if k > 0 {
+            text.push_str(format!(in alloc; "{index:6}{k:6} {:>21}\n", "-1000")?.as_str())?;
+        }
+        text.push_str(format!(in alloc; "{index:6}{index:6} {value:21}\n")?.as_str())?;
+    }
+    text.push_str("-SOLUTION/NORMAL_EQUATION_MATRIX L\n%ENDSNX\n")?;
+    Ok(text)
+}
+
+// Columns 1 to 44 of row k of that file.
+fn label_of(alloc: Global, k: usize) -> Result<String, AllocError> {
+    let index = k + 1;
+    let axis = if k < 50 {
+        "X"
+    } else if k < 100 {
+        "Y"
+    } else {
+        "Z"
+    };
+    let station = k % 50;
+    format!(in alloc; "{index:6} STA{axis}   S{station:03}  A    1 24:001:00000 m   ")
+}
+
+// Its report, as tools/solve.py computes it: its length, its lines and their number.
+#[test]
+fn many_rows(rt: HostRuntime) -> Result<(), Fail> {
+    let alloc = rt.alloc();
+    let text = fifty_stations(alloc)?;
+    let mut desk = desk_with(alloc, text.as_str(), Vec::new(alloc))?;
+    let words = words_of(alloc, "solve in rep")?;
+    assert_eq!(rt; run(&rt, alloc, &words, &mut desk), 0);
+    assert_eq!(rt; desk.said(), b"".as_slice());
+    let report = str::from_utf8(desk.file("rep").expect(&rt, "a report")).expect(&rt, "a text");
+    assert_eq!(rt; report.len(), 18770);
+    assert_eq!(rt; report.lines().count(), 153);
+    for (k, line) in [
+        (0, "SNXCOMB BOUNDS 1"),
+        (1, "CERT g=40 B=1 M=1 N=150"),
+        (
+            2,
+            "     1 STAX   S000  A    1 24:001:00000 m    1000000.0000000010020020 1000000.0000000010020060 1000000000000000000000000E-27",
+        ),
+        (
+            77,
+            "    76 STAY   S025  A    1 24:001:00000 m    1000750.0000050096365540 1000750.0000050096365580 365750000000000000000000E-27",
+        ),
+        (
+            151,
+            "   150 STAZ   S049  A    1 24:001:00000 m    1001490.0000020007037520 1001490.0000020007037560 702000000000000000000000E-27",
+        ),
+        (152, "END"),
+    ] {
+        assert_eq!(rt; report.lines().nth(k), Some(line));
+    }
+    Ok(())
+}
+
+fn crosses_threads<T: Send + Sync>() {}
+
+#[test]
+fn types_cross_threads(_rt: HostRuntime) {
+    crosses_threads::<Name>();
+    crosses_threads::<Scope>();
+    crosses_threads::<Refusal>();
 }

@@ -1,26 +1,28 @@
 // The top call.
-ghost use Rattle.std.specs.Prelude.{◌≡◌, ◌≢◌, ◌≤◌, ◌⊎◌, ℕ, List, IsTrue, IfOk, OnErr, map, Contains, Ok, string_bytes};
-ghost use Rattle.desk_io.specs.Desk.{HasCause, Rose};
-ghost use Rattle.desk_io.specs.Whole.{WritesFile};
-ghost use Rattle.combine_cli.specs.Verdict.{Outcome, Output, IsVerdict, IsStatus, Leaves, Stopped, desk_line};
-ghost use Rattle.combine_cli.specs.Headline.{HasVerdict, IsCertifiedRun};
-ghost use Rattle.combine_cli.specs.Plan.{output_of, IsRefusalStatus, SaysPart, CutShort};
+ghost use Rattle.std.specs.Prelude.{◌≡◌, ◌≢◌, ◌≤◌, ◌⊎◌, ℕ, List, IsTrue, IfOk, OnErr, map, Ok, string_bytes};
+ghost use Rattle.desk_io.specs.Content.{IsFront};
+ghost use Rattle.desk_io.specs.Desk.{HasCause, Rose, Says};
+ghost use Rattle.desk_io.specs.Outputs.{NamedText};
+ghost use Rattle.combine_cli.specs.Refusals.{status_of, line_of};
+ghost use Rattle.combine_cli.specs.Verdict.{Outcome, FileNames, AreSolve, IsVerdict, NamesOutput};
+ghost use Rattle.combine_cli.specs.Runs.{IsStatus, HasStatusCause, HasVerdict, Leaves, SaysPart, StoppedAt, StoppedThen, SaysMemory, SaysFault, Excuses};
+ghost use Rattle.combine_cli.specs.Headline.{IsCertifiedRun};
 
-use crate::decide::{Plan, Stop, decide};
-use desk_io::{Desk, DeskError, write_file};
+use crate::decide::decide;
+use crate::refusal::{DESK_LINE, MEMORY_LINE, Refusal, line, status};
+use desk_io::{Desk, DeskError, write_outputs};
 use std::alloc::Global;
 use std::thread::Threads;
 
-const MEMORY_LINE: &[u8] = b"snxcomb: memory\n";
-
-const DESK_LINE: &[u8] = b"snxcomb: desk\n";
-
-// Writes the file that was planned.
-fn write_plan<D: Desk>(desk: &mut D, plan: &Plan<'_>) -> Result<(), DeskError>
-    ensures content { IsTrue D.tells → WritesFile (output_of plan.now).name (output_of plan.now).text (D.content desk.old) (D.content desk.new) result }
+// Says the line of a refusal.
+fn say_refusal<D: Desk>(alloc: Global, desk: &mut D, refusal: &Refusal) -> Result<(), DeskError>
+    ensures content { IsTrue D.tells → Says (line_of refusal.now) (D.content desk.old) (D.content desk.new) result }
     ensures cause { HasCause (D.faults desk.old) (D.faults desk.new) result }
 {
-    write_file(desk, plan.name, &plan.text)
+    match line(alloc, refusal) {
+        Ok(line) => desk.say(&line),
+        Err(_) => Err(DeskError::Memory),
+    }
 }
 
 // Does what was decided. An error says that it was cut short.
@@ -30,34 +32,50 @@ fn carry_out<R: Threads + Sync, D: Desk>(
     words: &[String],
     desk: &mut D,
 ) -> Result<u8, DeskError>
-    ensures status { IfOk result (λ status. (status ≡ 0) ⊎ IsRefusalStatus status) }
+    ensures status { IfOk result (λ status. IsStatus status × (status ≢ 4) × (status ≢ 5)) }
     ensures cause { HasCause (D.faults desk.old) (D.faults desk.new) result }
     ensures done { IsTrue D.tells → IfOk result (λ status. HasVerdict (map string_bytes words.now) (D.content desk.old).files (λ outcome. Leaves status outcome (D.content desk.old) (D.content desk.new))) }
-    ensures cut { IsTrue D.tells → OnErr result ((outcome : Outcome) → IsVerdict (map string_bytes words.now) (D.content desk.old).files outcome → CutShort outcome (D.content desk.old) (D.content desk.new)) }
-    ensures untouched { IsTrue D.tells → (name : List ℕ) → (Contains (map string_bytes words.now) name → ⊥) → (D.content desk.new).files name ≡ (D.content desk.old).files name }
+    ensures cut { IsTrue D.tells → OnErr result ((outcome : Outcome) → IsVerdict (map string_bytes words.now) (D.content desk.old).files outcome → StoppedAt outcome (D.content desk.old) (D.content desk.new)) }
+    ensures untouched { IsTrue D.tells → (name : List ℕ) → ¬ (NamesOutput (map string_bytes words.now) name) → (D.content desk.new).files name ≡ (D.content desk.old).files name }
+    ensures said { IsTrue D.tells → IsFront (D.content desk.old).said (D.content desk.new).said }
     ensures certified { IsTrue D.tells → IfOk result (λ status. status ≡ 0 → IsCertifiedRun (map string_bytes words.now) (D.content desk.old).files (D.content desk.new).files) }
 {
     match decide(rt, alloc, words, desk) {
-        Ok(plan) => {
-            write_plan(desk, &plan)?;
+        Ok(outputs) => {
+            write_outputs(desk, &outputs)?;
             Ok(0)
         }
-        Err(Stop::Refused { status, line }) => {
-            desk.say(&line)?;
-            Ok(status)
-        }
-        Err(Stop::Fault) => Err(DeskError::Fault),
-        Err(Stop::Memory) => Err(DeskError::Memory),
+        Err(refusal) => match status(&refusal) {
+            4 => Err(DeskError::Memory),
+            5 => Err(DeskError::Fault),
+            status => {
+                say_refusal(alloc, desk, &refusal)?;
+                Ok(status)
+            }
+        },
     }
 }
 
+// Says that the desk failed.
 fn say_fault<D: Desk>(desk: &mut D) -> u8
     ensures status { result ≡ 5 }
-    ensures content { IsTrue D.tells → SaysPart desk_line (D.content desk.old) (D.content desk.new) }
+    ensures content { IsTrue D.tells → SaysPart (line_of Refusal.Desk) (D.content desk.old) (D.content desk.new) }
     ensures later { D.faults desk.old ≤ D.faults desk.new }
 {
     let _ = desk.say(DESK_LINE);
     5
+}
+
+// Says that memory is wanting, or that the desk failed in saying it.
+fn say_memory<D: Desk>(desk: &mut D) -> u8
+    ensures status { (result ≡ 4) ⊎ (result ≡ 5) }
+    ensures content { IsTrue D.tells → Excuses result (D.content desk.old) (D.content desk.new) }
+    ensures cause { HasStatusCause (D.faults desk.old) (D.faults desk.new) result }
+{
+    match desk.say(MEMORY_LINE) {
+        Err(DeskError::Fault) => say_fault(desk),
+        _ => 4,
+    }
 }
 
 /// Runs the command that the words name, and answers its status.
@@ -68,8 +86,17 @@ fn say_fault<D: Desk>(desk: &mut D) -> u8
 /// Before 2, 3 and 6 the refusal's line was said whole and no file was created; IN is read to its end before REPORT is created.
 pub fn run<R: Threads + Sync, D: Desk>(rt: &R, alloc: Global, words: &[String], desk: &mut D) -> u8
     ensures status { IsStatus result }
-    ensures later { D.faults desk.old ≤ D.faults desk.new }
-    ensures fault { result ≡ 5 → Rose (D.faults desk.old) (D.faults desk.new) }
+
+    // The count of faults rose before 5, and is as before with 0, 2, 3 and 6.
+    ensures cause { HasStatusCause (D.faults desk.old) (D.faults desk.new) result }
+
+    // Whatever the status, each file but the outputs that the words name is as before, the one that is read among them, and
+    // what was said before still stands before all that the run said.
+    ensures untouched { IsTrue D.tells → (name : List ℕ) → ¬ (NamesOutput (map string_bytes words.now) name)
+        → (D.content desk.new).files name ≡ (D.content desk.old).files name }
+    ensures input { IsTrue D.tells → (names : FileNames) → AreSolve (map string_bytes words.now) names
+        → (D.content desk.new).files names.from ≡ (D.content desk.old).files names.from }
+    ensures said { IsTrue D.tells → IsFront (D.content desk.old).said (D.content desk.new).said }
 
     // Over a desk that tells its files the words and the files have one verdict, and the run leaves what it says.
     ensures verdict { IsTrue D.tells → result ≢ 4 → result ≢ 5
@@ -77,15 +104,14 @@ pub fn run<R: Threads + Sync, D: Desk>(rt: &R, alloc: Global, words: &[String], 
     ensures alone { (one other : Outcome) → IsVerdict (map string_bytes words.now) (D.content desk.old).files one
         → IsVerdict (map string_bytes words.now) (D.content desk.old).files other → one ≡ other }
 
-    // Where the verdict is a report and no fault comes, it is written, or memory was wanting.
-    ensures complete { IsTrue D.tells → (output : Output) → IsVerdict (map string_bytes words.now) (D.content desk.old).files (Ok output)
-        → (Rose (D.faults desk.old) (D.faults desk.new) → ⊥) → (result ≡ 0) ⊎ (result ≡ 4) }
+    // Where the verdict is outputs and no fault comes, they are written, or memory was wanting.
+    ensures complete { IsTrue D.tells → (outputs : List NamedText) → IsVerdict (map string_bytes words.now) (D.content desk.old).files (Ok outputs)
+        → ¬ (Rose (D.faults desk.old) (D.faults desk.new)) → (result ≡ 0) ⊎ (result ≡ 4) }
 
-    // What stands after want of memory or a fault.
+    // What stands after want of memory or a fault, and what is said then.
     ensures stopped { IsTrue D.tells → (result ≡ 4) ⊎ (result ≡ 5) → (outcome : Outcome)
-        → IsVerdict (map string_bytes words.now) (D.content desk.old).files outcome → Stopped outcome (D.content desk.old) (D.content desk.new) }
-    ensures untouched { IsTrue D.tells → (name : List ℕ) → (Contains (map string_bytes words.now) name → ⊥)
-        → (D.content desk.new).files name ≡ (D.content desk.old).files name }
+        → IsVerdict (map string_bytes words.now) (D.content desk.old).files outcome
+        → StoppedThen outcome (Excuses result) (D.content desk.old) (D.content desk.new) }
 
     // The exact system of the input's normal equations lies in their words. Each solution of each system in them lies between
     // the printed bounds, two solutions are equal, and the printed estimates leave at most the printed residual in every row.
@@ -94,9 +120,6 @@ pub fn run<R: Threads + Sync, D: Desk>(rt: &R, alloc: Global, words: &[String], 
     match carry_out(rt, alloc, words, desk) {
         Ok(status) => status,
         Err(DeskError::Fault) => say_fault(desk),
-        Err(DeskError::Memory) => match desk.say(MEMORY_LINE) {
-            Err(DeskError::Fault) => say_fault(desk),
-            _ => 4,
-        },
+        Err(DeskError::Memory) => say_memory(desk),
     }
 }

@@ -1,13 +1,24 @@
-use Rattle.std.proofs.Common.{Ok, sym, ap, ◌∙◌}
-use Rattle.combine_cli.proofs.Verdicts.{refuses_words, text_planned}
+use Rattle.std.proofs.Common.{ℕ, List, Err, map, string_bytes, refl, subst}
+use Rattle.std.proofs.lemmas.Result.{err_from_is_err_and}
+use Rattle.combine_cli.specs.Plan.{names_in, IsTextVerdict}
+use Rattle.combine_cli.proofs.Verdicts.{by_file, by_text}
 use Rattle.combine_cli.proofs.decide.decide.Goals as goal
 
-pub returns-clause-refused : goal.returns-clause-refused
-returns-clause-refused g c = λ tells.
-    refuses_words c.in-Err.stop _ _ c.in-Some.names.from.now c.in-Some.names.to.now c.deref.result.now c.in-Some.ensures
-    (c.in_ok-text.ensures.text tells ∙ ap Ok (sym c.deref.ensures.value)) c.in-Err.ensures.refused
+pub returns-in_err-text-clause-refused : goal.returns-in_err-text-clause-refused
+returns-in_err-text-clause-refused g c = λ tells.
+    let p = err_from_is_err_and c.from_residual-in_err-text.result c.from_residual-in_err-text.ensures.1 in
+    rw (p.1, p.2) (λ a b.
+    by_file (map string_bytes c.args.words.now) (g.D.Desk.content c.args.desk.now).files (names_in c.in_ok-names.names) _ c.in_ok-names.ensures.names
+    (c.in_err-text.ensures.refused tells a b))
 
-pub returns-in-Ok-clause-planned : goal.returns-in-Ok-clause-planned
-returns-in-Ok-clause-planned g c = λ tells.
-    text_planned _ _ c.in-Some.names.from.now c.in-Some.names.to.now c.deref.result.now c.in-Ok.text.items c.in-Some.ensures
-    (c.in_ok-text.ensures.text tells ∙ ap Ok (sym c.deref.ensures.value)) c.in-Ok.ensures.report
+pub returns-in_err-report-clause-refused : goal.returns-in_err-report-clause-refused
+returns-in_err-report-clause-refused g c = λ tells.
+    let p = err_from_is_err_and c.from_residual-in_err-report.result c.from_residual-in_err-report.ensures.1 in
+    rw (p.1, p.2) (λ a b.
+    by_text (map string_bytes c.args.words.now) (g.D.Desk.content c.args.desk.now).files (names_in c.in_ok-names.names) c.in_ok-text.text.items _ c.in_ok-names.ensures.names
+    (c.in_ok-text.ensures.text tells) (rw c.deref.ensures.value at (c.in_err-report.ensures.refused a b)))
+
+pub returns-in_err-outputs-clause-refused : goal.returns-in_err-outputs-clause-refused
+returns-in_err-outputs-clause-refused g c = λ tells.
+    let p = err_from_is_err_and c.from_residual-in_err-outputs.result c.from_residual-in_err-outputs.ensures.1 in
+    rw (p.1, p.2) (λ a b. absurd (a refl))

@@ -1,0 +1,252 @@
+-- What a run leaves, by how far it came.
+use Rattle.std.proofs.Common.{◌≡◌, ◌≢◌, ◌⊎◌, ◌++◌, ◌∷◌, ℕ, List, [], map, Option, Some, None, true, false, Result, Ok, Err, OnErr, IsErrOf, refl, sym, ◌∙◌, ap, subst, inl, inr, append-nil, append_assoc, arith}
+use Rattle.std.proofs.lemmas.List.Elements.{All-nil, All-cons, All-head, All-tail}
+use Rattle.desk_io.specs.Content.{File, Content, KeepsAll, IsFront}
+use Rattle.desk_io.specs.Desk.{Says}
+use Rattle.desk_io.specs.Whole.{HoldsPart}
+use Rattle.desk_io.specs.declared.outputs.Output.{Output}
+use Rattle.desk_io.specs.Outputs.{NamedText, named_text, HoldsWhole, WritesOne, CutsOne, AllWritten, CutAmong, Writing, NamesNone, NamesDiffer, StandsWhole, StandsCut}
+use Rattle.desk_io.specs.declared.desk.DeskError.{DeskError}
+use Rattle.desk_io.specs.declared.desk.DeskError.TheVariants as desk
+use Rattle.combine_cli.specs.Refusals.{status_of, line_of}
+use Rattle.combine_cli.specs.Verdict.{FileNames, AreSolve, Outcome, IsVerdict, NamesOutput}
+use Rattle.combine_cli.specs.Headline.{IsCertifiedRun}
+use Rattle.combine_cli.specs.Runs.{HasVerdict, AfterReading, Leaves, SaysPart, StoppedAt, StoppedThen, SaysMemory, SaysFault, Excuses}
+use Rattle.combine_cli.specs.Plan.{IsPlanned}
+use Rattle.combine_cli.specs.declared.refusal.Refusal.{Refusal}
+use Rattle.combine_cli.specs.declared.refusal.Refusal.TheVariants.{Memory, Desk}
+use Rattle.combine_cli.proofs.Verdicts.{one_verdict, planned_verdict, planned_run}
+
+-- a fact is what an error needs
+pub on_err : {T E : Type 0} (r : Result T E) {P : Type 0} → P → OnErr r P
+on_err (Ok x) p = tt
+on_err (Err e) p = p
+
+-- the bytes that were passed are the text's
+pub says_text : (bytes text : List ℕ) (old new : Content) (result : Result (Unit {0}) DeskError) → bytes ≡ text → Says bytes old new result → Says text old new result
+says_text bytes text old new result e s = subst (λ t. Says t old new result) e s
+
+-- ---- said bytes only grow
+
+pub grown_by : (part : List ℕ) (old new : Content) → new.said ≡ old.said ++ part → IsFront old.said new.said
+grown_by part old new e = (part, e)
+
+pub not_grown : (old new : Content) → new.said ≡ old.said → IsFront old.said new.said
+not_grown old new e = ([], e ∙ sym (append-nil old.said))
+
+pub grown_twice : (old mid new : Content) → IsFront old.said mid.said → IsFront mid.said new.said → IsFront old.said new.said
+grown_twice old mid new h k = (h.0 ++ k.0, k.1 ∙ ap (λ b. b ++ k.0) h.1 ∙ append_assoc old.said h.0 k.0)
+
+-- a call of say, whatever it answered, said a prefix
+pub said_part : (bytes : List ℕ) (old new : Content) (result : Result (Unit {0}) DeskError) → Says bytes old new result → SaysPart bytes old new
+said_part bytes old new (Ok u) h = record { files = h.files; said = (bytes, ([], sym (append-nil bytes)), h.appended) }
+said_part bytes old new (Err e) h = record { files = h.files; said = h.appended }
+
+pub part_grows : (bytes : List ℕ) (old new : Content) → SaysPart bytes old new → IsFront old.said new.said
+part_grows bytes old new h = (h.said.0, h.said.2)
+
+pub says_nothing : (bytes : List ℕ) (content : Content) → SaysPart bytes content content
+says_nothing bytes content = record { files = refl; said = ([], (bytes, refl), sym (append-nil content.said)) }
+
+-- ---- whole runs
+
+pub done_writing : (words : List (List ℕ)) (outputs : List NamedText) (old mid new : Content) → IsPlanned words old.files outputs → KeepsAll old mid
+    → StandsWhole outputs mid new → HasVerdict words old.files (λ o. Leaves 0 o old new)
+done_writing words outputs old mid new p keeps w = record {
+  outcome = Ok outputs;
+  verdict = planned_verdict words old.files outputs p;
+  holds = (refl, record { read = mid; keeps = keeps; onward = w });
+}
+
+pub done_saying : (words : List (List ℕ)) (refusal : Refusal) (status : ℕ) (old mid new : Content) (u : Unit {0}) → status ≡ status_of refusal → IsVerdict words old.files (Err refusal) → KeepsAll old mid
+    → Says (line_of refusal) mid new (Ok u) → HasVerdict words old.files (λ o. Leaves status o old new)
+done_saying words refusal status old mid new u is v keeps s = record {
+  outcome = Err refusal;
+  verdict = v;
+  holds = (
+    is,
+    record {
+      files = s.files ∙ keeps.files;
+      said = s.appended ∙ ap (λ b. b ++ line_of refusal) keeps.said;
+    },
+  );
+}
+
+-- a run whose verdict is outputs has status 0
+pub writes_outputs : (words : List (List ℕ)) (files : List ℕ → Option File) (status : ℕ) (outputs : List NamedText) (old new : Content) → IsVerdict words files (Ok outputs)
+    → HasVerdict words files (λ o. Leaves status o old new) → status ≡ 0
+writes_outputs words files status outputs old new v h =
+    let leaves = subst (λ o. Leaves status o old new) (one_verdict words files h.outcome (Ok outputs) h.verdict v) h.holds in leaves.0
+
+-- the names of one output differ
+pub differ_alone : (outputs : List NamedText) (output : NamedText) → outputs ≡ output ∷ [] → NamesDiffer outputs
+differ_alone outputs output e = subst NamesDiffer (sym e) (All-nil (λ (o : NamedText). output.name ≢ o.name), tt)
+
+pub planned_differ : (words : List (List ℕ)) (files : List ℕ → Option File) (outputs : List NamedText) → IsPlanned words files outputs → NamesDiffer outputs
+planned_differ words files outputs p = differ_alone outputs (record { name = p.names.to; text = p.report }) p.outputs_are
+
+-- what is planned, of the slice that is written
+pub planned_slice : (words : List (List ℕ)) (files : List ℕ → Option File) (items slice : List Output) → slice ≡ items → IsPlanned words files (map named_text items)
+    → IsPlanned words files (map named_text slice)
+planned_slice words files items slice e p = subst (λ (os : List Output). IsPlanned words files (map named_text os)) (sym e) p
+
+pub certified_writing : (words : List (List ℕ)) (outputs : List NamedText) (old mid new : Content) → IsPlanned words old.files outputs
+    → StandsWhole outputs mid new → IsCertifiedRun words old.files new.files
+certified_writing words outputs old mid new p w =
+    let output : NamedText = record { name = p.names.to; text = p.report } in
+    let whole = subst (λ (os : List NamedText). StandsWhole os mid new) p.outputs_are w in
+    planned_run words old.files new.files outputs p (All-head (λ o. HoldsWhole o new) output [] whole.whole)
+
+-- ---- runs that were cut short
+
+pub cut_before : (outcome : Outcome) (old new : Content) → KeepsAll old new → StoppedAt outcome old new
+cut_before (Ok outputs) old new keeps = record { read = new; keeps = keeps; onward = inl refl }
+cut_before (Err refusal) old new keeps = record {
+  files = keeps.files;
+  said = ([], (line_of refusal, refl), keeps.said ∙ sym (append-nil old.said));
+}
+
+pub cut_writing : (words : List (List ℕ)) (outcome : Outcome) (outputs : List NamedText) (old mid new : Content) → IsVerdict words old.files outcome → IsPlanned words old.files outputs → KeepsAll old mid
+    → StandsCut outputs mid new → StoppedAt outcome old new
+cut_writing words outcome outputs old mid new v p keeps w =
+    let same : Ok outputs ≡ outcome = one_verdict words old.files (Ok outputs) outcome (planned_verdict words old.files outputs p) v in
+    let cut : StoppedAt (Ok outputs) old new = record { read = mid; keeps = keeps; onward = inr w } in
+    subst (λ o. StoppedAt o old new) same cut
+
+pub cut_saying : (words : List (List ℕ)) (outcome : Outcome) (refusal : Refusal) (old mid new : Content) (result : Result (Unit {0}) DeskError) → IsVerdict words old.files outcome → IsVerdict words old.files (Err refusal) → KeepsAll old mid
+    → Says (line_of refusal) mid new result → StoppedAt outcome old new
+cut_saying words outcome refusal old mid new result v r keeps s =
+    let same : Err refusal ≡ outcome = one_verdict words old.files (Err refusal) outcome r v in
+    let part = said_part (line_of refusal) mid new result s in
+    let cut : StoppedAt (Err refusal) old new = record {
+      files = part.files ∙ keeps.files;
+      said = (part.said.0, part.said.1, part.said.2 ∙ ap (λ b. b ++ part.said.0) keeps.said);
+    } in
+    subst (λ o. StoppedAt o old new) same cut
+
+pub then_says : (outcome : Outcome) (status : ℕ) (old mid new : Content) → StoppedAt outcome old mid → Excuses status mid new → StoppedThen outcome (Excuses status) old new
+then_says outcome status old mid new stopped says = record { at = mid; stopped = stopped; onward = says }
+
+-- ---- what is said of it
+
+pub excuses_memory : (old new : Content) (answer : Result (Unit {0}) DeskError) → ¬ (IsErrOf answer desk.Fault) → Says (line_of Memory) old new answer → Excuses 4 old new
+excuses_memory old new answer none says = inl (refl, record { answer = answer; no_fault = none; says = says })
+
+pub excuses_fault : (old new : Content) → SaysPart (line_of Desk) old new → Excuses 5 old new
+excuses_fault old new says = inr (refl, record { between = old; memory = says_nothing (line_of Memory) old; fault = says })
+
+pub excuses_both : (old mid new : Content) (answer : Result (Unit {0}) DeskError) → Says (line_of Memory) old mid answer → SaysPart (line_of Desk) mid new → Excuses 5 old new
+excuses_both old mid new answer memory says = inr (refl, record { between = mid; memory = said_part (line_of Memory) old mid answer memory; fault = says })
+
+pub excuses_files : (status : ℕ) (old new : Content) → Excuses status old new → new.files ≡ old.files
+excuses_files status old new (inl h) = h.1.says.files
+excuses_files status old new (inr h) = h.1.fault.files ∙ h.1.memory.files
+
+pub excuses_grow : (status : ℕ) (old new : Content) → Excuses status old new → IsFront old.said new.said
+excuses_grow status old new (inl h) = part_grows (line_of Memory) old new (said_part (line_of Memory) old new h.1.answer h.1.says)
+excuses_grow status old new (inr h) =
+    grown_twice old h.1.between new (part_grows (line_of Memory) old h.1.between h.1.memory) (part_grows (line_of Desk) h.1.between new h.1.fault)
+
+-- ---- files that are no output
+
+-- whether an output has another name
+abbrev Differs : List ℕ → NamedText → Type 0
+Differs name output = name ≢ output.name
+
+others_kept : (outputs : List NamedText) (old new : Content) (result : Result (Unit {0}) DeskError) (name : List ℕ) → NamesNone outputs name → Writing outputs old new result
+    → new.files name ≡ old.files name
+others_kept [] old new (Ok u) name none w = ap (λ content. content.files name) w
+others_kept [] old new (Err e) name none w = absurd w
+others_kept (output ∷ later) old new (Ok u) name none w =
+    others_kept later w.0 new (Ok u) name (All-tail (Differs name) output later none) w.2 ∙ w.1.only.others name (All-head (Differs name) output later none)
+others_kept (output ∷ later) old new (Err e) name none (inl one) = one.only.others name (All-head (Differs name) output later none)
+others_kept (output ∷ later) old new (Err e) name none (inr w) =
+    others_kept later w.0 new (Err e) name (All-tail (Differs name) output later none) w.2 ∙ w.1.only.others name (All-head (Differs name) output later none)
+
+said_kept : (outputs : List NamedText) (old new : Content) (result : Result (Unit {0}) DeskError) → Writing outputs old new result → new.said ≡ old.said
+said_kept [] old new (Ok u) w = ap (λ content. content.said) w
+said_kept [] old new (Err e) w = absurd w
+said_kept (output ∷ later) old new (Ok u) w = said_kept later w.0 new (Ok u) w.2 ∙ w.1.only.said
+said_kept (output ∷ later) old new (Err e) (inl one) = one.only.said
+said_kept (output ∷ later) old new (Err e) (inr w) = said_kept later w.0 new (Err e) w.2 ∙ w.1.only.said
+
+-- what is planned names outputs of the words alone
+planned_names : (words : List (List ℕ)) (files : List ℕ → Option File) (outputs : List NamedText) (name : List ℕ) → IsPlanned words files outputs → ¬ (NamesOutput words name)
+    → NamesNone outputs name
+planned_names words files outputs name p none =
+    let output : NamedText = record { name = p.names.to; text = p.report } in
+    let other : Differs name output = λ same. none (p.names, p.solve, same) in
+    subst (λ (os : List NamedText). NamesNone os name) (sym p.outputs_are) (All-cons (Differs name) output [] other (All-nil (Differs name)))
+
+pub untouched_by_writing : (words : List (List ℕ)) (outputs : List NamedText) (old mid new : Content) (result : Result (Unit {0}) DeskError) (name : List ℕ) → IsPlanned words old.files outputs → KeepsAll old mid
+    → Writing outputs mid new result → ¬ (NamesOutput words name) → new.files name ≡ old.files name
+untouched_by_writing words outputs old mid new result name p keeps w none =
+    others_kept outputs mid new result name (planned_names words old.files outputs name p none) w ∙ ap (λ f. f name) keeps.files
+
+pub said_by_writing : (outputs : List NamedText) (old mid new : Content) (result : Result (Unit {0}) DeskError) → KeepsAll old mid → Writing outputs mid new result → IsFront old.said new.said
+said_by_writing outputs old mid new result keeps w = not_grown old new (said_kept outputs mid new result w ∙ keeps.said)
+
+pub said_by_saying : (bytes : List ℕ) (old mid new : Content) (result : Result (Unit {0}) DeskError) → KeepsAll old mid → Says bytes mid new result → IsFront old.said new.said
+said_by_saying bytes old mid new result keeps s =
+    grown_twice old mid new (not_grown old mid keeps.said) (part_grows bytes mid new (said_part bytes mid new result s))
+
+-- the file that is read is no output
+pub input_is_none : (words : List (List ℕ)) (names : FileNames) → AreSolve words names → ¬ (NamesOutput words names.from)
+input_is_none words names solve named =
+    let other = named.1 in
+    let e = sym solve.words_are ∙ other.words_are in
+    let to : names.to ≡ named.0.to = cc in
+    solve.differ (named.2 ∙ sym to)
+
+-- ---- where a run stopped, by one output
+
+-- a file that stands where none was before
+stands_now : (name : List ℕ) (file : Option File) (there : File) → file ≡ None → file ≡ Some there → ⊥
+stands_now name file there none some = let e : Some there ≡ None = sym some ∙ none in cc
+
+part_stands : (name text : List ℕ) (old new : Content) (file : File) → old.files name ≡ None → new.files name ≡ Some file
+    → (new.files name ≡ old.files name) ⊎ HoldsPart name text new → IsFront file.bytes text
+part_stands name text old new file none some (inl same) = absurd (stands_now name (new.files name) file (same ∙ none) some)
+part_stands name text old new file none some (inr part) =
+    let e : Some file ≡ Some (record { bytes = part.0; finished = false }) = sym some ∙ part.2 in
+    let bytes : part.0 ≡ file.bytes = bytes_same file part.0 e in
+    subst (λ b. IsFront b text) bytes part.1
+  where
+    bytes_same : (file : File) (bytes : List ℕ) → Some file ≡ Some (record { bytes = bytes; finished = false }) → bytes ≡ file.bytes
+    bytes_same file bytes e = let same : file ≡ record { bytes = bytes; finished = false } = cc in ap (λ (f : File). f.bytes) (sym same)
+
+-- the one output of a list that was cut
+only_cut : (output : NamedText) (earlier : List NamedText) (cut : NamedText) (later : List NamedText) → output ∷ [] ≡ earlier ++ cut ∷ later → (earlier ≡ []) × (cut ≡ output)
+only_cut output [] cut later e = (refl, cc)
+only_cut output (first ∷ []) cut later e = absurd (cc)
+only_cut output (first ∷ second ∷ rest) cut later e = absurd (cc)
+
+cut_front : (output : NamedText) (old new : Content) (file : File) → StandsCut (output ∷ []) old new → old.files output.name ≡ None → new.files output.name ≡ Some file → IsFront file.bytes output.text
+cut_front output old new file h none some =
+    let one = only_cut output h.earlier h.cut h.later h.in_order in
+    part_stands output.name output.text old new file none some
+    (subst (λ (o : NamedText). (new.files o.name ≡ old.files o.name) ⊎ HoldsPart o.name o.text new) one.1 h.stands)
+
+cut_others : (output : NamedText) (old new : Content) (name : List ℕ) → StandsCut (output ∷ []) old new → name ≢ output.name → new.files name ≡ old.files name
+cut_others output old new name h differs =
+    let one = only_cut output h.earlier h.cut h.later h.in_order in
+    let alone : NamesNone (output ∷ []) name = All-cons (Differs name) output [] differs (All-nil (Differs name)) in
+    let cut : h.earlier ++ h.cut ∷ [] ≡ output ∷ [] = ap (λ (e : List NamedText). e ++ h.cut ∷ []) one.0 ∙ ap (λ (o : NamedText). o ∷ []) one.1 in
+    h.others name (subst (λ (os : List NamedText). NamesNone os name) (sym cut) alone)
+
+pub stopped_front : (output : NamedText) (old new : Content) (file : File) → StoppedAt (Ok (output ∷ [])) old new → old.files output.name ≡ None → new.files output.name ≡ Some file
+    → IsFront file.bytes output.text
+stopped_front output old new file h none some =
+    let before : h.read.files output.name ≡ None = ap (λ f. f output.name) h.keeps.files ∙ none in
+    elim h.onward [
+      | inl same ↦ absurd (stands_now output.name (new.files output.name) file (ap (λ (content : Content). content.files output.name) same ∙ before) some)
+      | inr cut ↦ cut_front output h.read new file cut before some
+    ]
+
+pub stopped_others : (output : NamedText) (old new : Content) (name : List ℕ) → StoppedAt (Ok (output ∷ [])) old new → name ≢ output.name → new.files name ≡ old.files name
+stopped_others output old new name h differs =
+    let before = ap (λ (f : List ℕ → Option File). f name) h.keeps.files in
+    elim h.onward [
+      | inl same ↦ ap (λ (content : Content). content.files name) same ∙ before
+      | inr cut ↦ cut_others output h.read new name cut differs ∙ before
+    ]
