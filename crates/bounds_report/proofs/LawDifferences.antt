@@ -1,5 +1,5 @@
 -- The differences of the printed estimates from the a priori values: the words that hold them, and their fractions over one denominator.
-use Rattle.std.proofs.Common.{◌≡◌, ◌*◌, ◌^◌, ◌≤◌, ◌<◌, ◌∙◌, ℕ, zero, suc, ℤ, pos, ◌+ℤ◌, ◌*ℤ◌, unsigned_abs, Bool, true, false, arith, refl, sym, ap, subst}
+use Rattle.std.proofs.Common.{◌≡◌, ◌*◌, ◌^◌, ◌≤◌, ◌<◌, ◌∙◌, ℕ, zero, suc, ℤ, pos, ◌+ℤ◌, ◌*ℤ◌, neg_ℤ, Bool, true, false, arith, refl, sym, ap, subst}
 use Rattle.std.specs.Prelude.{nat_le, if◌then◌else◌}
 use Rattle.std.proofs.Math.IntN.{◌-ℤ◌}
 use Rattle.std.proofs.Math.Nat.{mul-pos}
@@ -17,12 +17,12 @@ use Rattle.decimal_e.specs.Scales.{decimal_interval}
 use Rattle.decimal_e.proofs.Values.{ten_below_some}
 use Rattle.sys_model.specs.Systems.{Fractions}
 use Rattle.sys_model.proofs.Exist.{with_last, at_last, at_other}
-use Rattle.equil.specs.Exponents.{IsInRange}
-use Rattle.equil.specs.Scaled.{ten_power}
+use Rattle.sys_model.specs.Scaling.{TimesPower}
+use Rattle.sys_model.proofs.ScalingLaws.{times_then, times_back, times_same, times_raised, holds_power}
 use Rattle.bounds_report.specs.Bounds.{AreDifferences}
 use Rattle.bounds_report.specs.Printing.{difference, estimate_of, working_difference}
 use Rattle.bounds_report.specs.declared.numbers.Printed.{Printed}
-use Rattle.bounds_report.proofs.LawWords.{holds_to_power, decimal_interval_holds}
+use Rattle.bounds_report.proofs.LawWords.{decimal_interval_holds}
 
 -- how far the estimate is from x0, over 10^16 times the denominator of x0
 abbrev pub away : Decimal → ℤ → ℤ
@@ -76,14 +76,16 @@ moved_over z x d t s k h = *ℤ_right_comm z (pos k) (pos s) ∙ ap (λ y. y *�
     regrouped : (x d t k : ℤ) → (x *ℤ (d *ℤ t)) *ℤ k ≡ (x *ℤ (t *ℤ k)) *ℤ d
     regrouped x d t k = simp ring
 
--- in the unit of the working table, of the fraction x / s that is the difference
-pub working_holds : (x0 : Decimal) (e y x : ℤ) (s : ℕ) → IsInRange e → 0 < s → x *ℤ pos (denominator x0 * 10 ^ 16) ≡ away x0 (estimate_of x0 e y) *ℤ pos s
-    → Holds (working_difference x0 e y) (x *ℤ pos (ten_power (pos 12 +ℤ e))) s
-working_holds x0 e y x s range some h =
+-- in the unit of the working table, of the fraction x / s that is the difference; u / q is x / s times 10^(12 + e)
+pub working_holds : (x0 : Decimal) (e y x u : ℤ) (s q : ℕ) → 0 < s → x *ℤ pos (denominator x0 * 10 ^ 16) ≡ away x0 (estimate_of x0 e y) *ℤ pos s
+    → TimesPower x s (pos 12 +ℤ e) u q → Holds (working_difference x0 e y) u q
+working_holds x0 e y x u s q some h t =
     let v = estimate_of x0 e y in
     let d = denominator x0 in
-    holds_to_power (e -ℤ pos 8) 20 (unsigned_abs (pos 12 +ℤ e)) (difference x0 v) x s (omega (arith, ints)) some
-    (holds_same (difference x0 v) (away x0 v *ℤ pos (10 ^ 4)) (x *ℤ pos (10 ^ 20)) d s (ten_below_some x0.exp) (moved_over (away x0 v) x d (10 ^ 16) s (10 ^ 4) h) (difference_holds x0 v))
+    let at_20 = holds_same (difference x0 v) (away x0 v *ℤ pos (10 ^ 4)) (x *ℤ pos (10 ^ 20)) d s (ten_below_some x0.exp) (moved_over (away x0 v) x d (10 ^ 16) s (10 ^ 4) h) (difference_holds x0 v) in
+    let back = times_back x (x *ℤ pos (10 ^ 20)) s s (pos 20) (times_raised x s 20) in
+    let there = times_then (x *ℤ pos (10 ^ 20)) x u s s q (neg_ℤ (pos 20)) (pos 12 +ℤ e) some back t in
+    holds_power (difference x0 v) (x *ℤ pos (10 ^ 20)) u s q (e -ℤ pos 8) some (times_same (x *ℤ pos (10 ^ 20)) u s q (neg_ℤ (pos 20) +ℤ (pos 12 +ℤ e)) (e -ℤ pos 8) (omega (arith, ints)) there) at_20
 
 -- ---- one denominator
 -- the fractions a_i / d_i of the i below n, over one denominator
@@ -115,5 +117,5 @@ over_one (suc n) a d some =
 -- the differences are fractions over one denominator
 pub differences_exist : (n : ℕ) (x0 : ℕ → Decimal) (p : ℕ → Printed) → (v : Fractions) × AreDifferences n x0 p v
 differences_exist n x0 p =
-    let r = over_one n (λ i. away (x0 i) (p i).estimate) (λ i. denominator (x0 i) * 10 ^ 16) (λ i. mul-pos (ten_below_some (x0 i).exp) (Powers.ten_above 16)) in
+    let r = over_one n (λ i. away (x0 i) (p i).estimate) (λ i. denominator (x0 i) * 10 ^ 16) (λ i. mul-pos (ten_below_some (x0 i).exp) (Powers.ten_pow_above 16)) in
     (r.v, record { some = r.some; rows = r.rows })

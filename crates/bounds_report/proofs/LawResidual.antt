@@ -1,19 +1,16 @@
 -- The printed residual: what the estimates leave of the right side is at most it.
-use Rattle.std.proofs.Common.{◌≡◌, ◌+◌, ◌*◌, ◌^◌, ◌≤◌, ◌<◌, ◌∙◌, ℕ, ℤ, pos, ◌+ℤ◌, ◌*ℤ◌, unsigned_abs, arith, ap}
+use Rattle.std.proofs.Common.{◌≡◌, ◌*◌, ◌≤◌, ◌<◌, ◌∙◌, ℕ, ℤ, pos, ◌+ℤ◌, ◌*ℤ◌, neg_ℤ, unsigned_abs, arith, sym, ap}
 use Rattle.std.proofs.Math.IntN.{◌-ℤ◌}
 use Rattle.std.proofs.Math.Nat.{mul-le-mul_right, le_of_mul-le-mul_left, mul-pos}
 use Rattle.std.proofs.lemmas.Int.{ints, unsigned_abs-mul}
-use Rattle.std.proofs.lemmas.Nat.{pow-add}
 use Rattle.whole_numbers.specs.Intervals.{Interval, Holds, size, interval_sub, interval_mul, sum_intervals}
 use Rattle.whole_numbers.proofs.EqualFractions.{holds_times}
 use Rattle.whole_numbers.proofs.Fractions.{holds_mul}
-use Rattle.whole_numbers.proofs.Powers as Powers
 use Rattle.whole_numbers.proofs.IntervalLaws.{holds_size, holds_sub, holds_sum}
-use Rattle.sys_model.specs.Systems.{System, Fractions, Table, LiesIn, row_by, residual, stack_system}
-use Rattle.equil.specs.Exponents.{IsInRange}
-use Rattle.equil.specs.Scaled.{scaled_system, working_numbers}
-use Rattle.bounds_report.proofs.LawSystems.{row_power, stack_residual, working_residual}
-use Rattle.bounds_report.proofs.LawWords.{ten_apart}
+use Rattle.sys_model.specs.Scaling.{IsRescaled, AreRescaled}
+use Rattle.sys_model.specs.Systems.{System, Fractions, Table, LiesIn, row_by, residual}
+use Rattle.sys_model.proofs.RescaledLaws.{residual_rescaled}
+use Rattle.sys_model.proofs.ScalingLaws.{times_back, times_same}
 use Rattle.whole_numbers.specs.Scaling.{ten_above, ten_below}
 
 -- what the words z leave of the right side in row i
@@ -33,34 +30,25 @@ left_size n t T y z i lies held row =
     let sized = holds_size (left_by n t z i) (T.c i *ℤ pos y.s -ℤ row_by n T.a i y.x) q (holds_sub (t.right i) (sum_intervals n (λ j. interval_mul (t.entry i j) (z j))) (T.c i *ℤ pos y.s) (row_by n T.a i y.x) q right sum) in
     rw (abs_swapped (row_by n T.a i y.x) (T.c i *ℤ pos y.s)) sized
 
--- the powers of ten of the systems, taken together
-cancelled : (left size ta tb k p d : ℕ) → 0 < k → ta * k ≡ p * tb → k * left ≤ size * (p * d) → left * tb ≤ (size * ta) * d
-cancelled left size ta tb k p d some is h =
-    let m = mul-le-mul_right tb h in
-    let g = ap (λ z. (size * z) * d) is in
-    let scaled : k * (left * tb) ≤ k * ((size * ta) * d) = omega (arith, m, g) in
+-- a residual times a denominator that both sides have
+cancelled : (left work size wq tb ta d : ℕ) → 0 < wq → left * (wq * tb) ≡ work * (d * ta) → work ≤ size * wq → left * tb ≤ (size * ta) * d
+cancelled left work size wq tb ta d some is h =
+    let m = mul-le-mul_right (d * ta) h in
+    let scaled : wq * (left * tb) ≤ wq * ((size * ta) * d) = omega (arith, m, is) in
     le_of_mul-le-mul_left scaled some
 
--- the size of the residual in the working words' units
-working_size : (n : ℕ) (e : ℕ → ℤ) (S : System) (v : Fractions) (i : ℕ) → ((j : ℕ) → j < n → IsInRange (e j)) → i < n
-    → unsigned_abs (residual n (scaled_system (stack_system S) e) (working_numbers v e) i) ≡ (row_power (e i) * 10 ^ 18) * unsigned_abs (residual n S v i)
-working_size n e S v i range row =
-    let r = working_residual n e (stack_system S) v i range row in
-    let s = stack_residual n S v i in
-    let one = unsigned_abs-mul (pos (row_power (e i))) (residual n (stack_system S) v i) in
-    let two = unsigned_abs-mul (pos (10 ^ 18)) (residual n S v i) in
-    ap unsigned_abs r ∙ one ∙ ap (λ z. row_power (e i) * unsigned_abs z) s ∙ ap (λ z. row_power (e i) * z) two ∙ omega arith
-
--- from the working words and words that hold the working numbers
-pub leaves_at_most : (n : ℕ) (w : Table) (e : ℕ → ℤ) (S : System) (v : Fractions) (z : ℕ → Interval) (i : ℕ) → ((j : ℕ) → j < n → IsInRange (e j)) → LiesIn n w (scaled_system (stack_system S) e)
-    → ((j : ℕ) → j < n → Holds (z j) ((working_numbers v e).x j) v.s) → i < n
+-- W is the system S in the units of the working table, y the fractions v; the intervals z hold y
+pub leaves_at_most : (n : ℕ) (w : Table) (e : ℕ → ℤ) (S W : System) (v y : Fractions) (z : ℕ → Interval) (i : ℕ) → IsRescaled n (pos 18) (pos 12) e S W → AreRescaled n (pos 12) e v y → LiesIn n w W
+    → ((j : ℕ) → j < n → Holds (z j) (y.x j) y.s) → i < n
     → unsigned_abs (residual n S v i) * ten_below (e i -ℤ pos 30) ≤ (size (left_by n w z i) * ten_above (e i -ℤ pos 30)) * (S.q * v.s)
-leaves_at_most n w e S v z i range lies held row =
+leaves_at_most n w e S W v y z i system numbers lies held row =
     let place = e i -ℤ pos 30 in
-    let k = unsigned_abs (pos 22 +ℤ (pos 12 -ℤ e i)) in
-    let sized = left_size n w (scaled_system (stack_system S) e) (working_numbers v e) z i lies held row in
-    let split : 10 ^ (k + 18) ≡ row_power (e i) * 10 ^ 18 = pow-add 10 k 18 in
-    let tens : ten_above place * 10 ^ (k + 18) ≡ 10 ^ 22 * ten_below place = let a = range i row in ten_apart place 22 (k + 18) (omega (arith, ints)) in
-    cancelled (unsigned_abs (residual n S v i)) (size (left_by n w z i)) (ten_above place) (ten_below place) (row_power (e i) * 10 ^ 18) (10 ^ 22) (S.q * v.s)
-    (mul-pos (Powers.ten_above k) (Powers.ten_above 18)) (rw split at tens)
-    (rw (working_size n e S v i range row) at (let q : size (left_by n w z i) * ((S.q * 10 ^ 22) * v.s) ≡ size (left_by n w z i) * (10 ^ 22 * (S.q * v.s)) = omega arith in rw q at sized))
+    let plain = residual n S v i in
+    let work = residual n W y i in
+    let q = S.q * v.s in
+    let wq = W.q * y.s in
+    let there = residual_rescaled n (pos 18) (pos 12) e S W v y i system numbers row in
+    let back = times_same work plain wq q (neg_ℤ (pos 18 +ℤ pos 12 -ℤ e i)) place (omega (arith, ints)) (times_back plain work q wq (pos 18 +ℤ pos 12 -ℤ e i) there) in
+    let sizes : unsigned_abs plain * (wq * ten_below place) ≡ unsigned_abs work * (q * ten_above place) =
+    sym (unsigned_abs-mul plain (pos (wq * ten_below place))) ∙ ap unsigned_abs back ∙ unsigned_abs-mul work (pos (q * ten_above place)) in
+    cancelled (unsigned_abs plain) (unsigned_abs work) (size (left_by n w z i)) wq (ten_below place) (ten_above place) q (mul-pos system.some numbers.some) sizes (left_size n w W y z i lies held row)

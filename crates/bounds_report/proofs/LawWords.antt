@@ -1,39 +1,22 @@
--- What words hold that are scaled by powers of ten, and what the words of decimals hold.
-use Rattle.std.proofs.Common.{◌≡◌, ◌+◌, ◌*◌, ◌^◌, ◌<◌, ◌∙◌, ℕ, suc, ℤ, pos, negsuc, ◌+ℤ◌, ◌*ℤ◌, arith, refl, sym, ap, subst}
-use Rattle.std.proofs.Math.IntN.{◌-ℤ◌}
-use Rattle.std.proofs.Math.Nat.{mul-pos}
+-- What intervals hold that are scaled by powers of ten, and what the intervals of decimals hold.
+use Rattle.std.proofs.Common.{◌≡◌, ◌*◌, ◌^◌, ◌<◌, ◌∙◌, ℕ, ℤ, pos, neg_ℤ, ◌+ℤ◌, ◌*ℤ◌, arith, refl}
 use Rattle.std.proofs.lemmas.Int.{ints}
-use Rattle.std.proofs.lemmas.Nat.{pow-add}
 use Rattle.whole_numbers.specs.Intervals.{Interval, Holds}
 use Rattle.whole_numbers.specs.Scaling.{interval_scale10, ten_above, ten_below}
 use Rattle.whole_numbers.proofs.EqualFractions.{holds_same}
-use Rattle.whole_numbers.proofs.Powers as Powers
 use Rattle.whole_numbers.proofs.Ring.{ring, *ℤ_assoc}
-use Rattle.whole_numbers.proofs.Scaled.{holds_raised, holds_lowered}
+use Rattle.sys_model.specs.Scaling.{TimesPower}
+use Rattle.sys_model.proofs.ScalingLaws.{times_then, times_back, times_same, times_raised, holds_power}
 use Rattle.decimal_e.specs.Decimals.{Decimal}
 use Rattle.decimal_e.specs.Fractions.{numerator, denominator}
 use Rattle.decimal_e.specs.Scales.{decimal_interval}
 use Rattle.decimal_e.proofs.Values.{holds_word, same_shift, ten_below_some}
 
--- ---- powers of ten with a sign
--- 10^k = 10^u / 10^v where k = u - v
-pub ten_apart : (k : ℤ) (u v : ℕ) → k ≡ pos u -ℤ pos v → ten_above k * 10 ^ v ≡ 10 ^ u * ten_below k
-ten_apart (pos n) u v e = let s : u ≡ n + v = omega (arith, ints) in let p = ap (λ z. 10 ^ z) s ∙ pow-add 10 n v in omega (arith, p)
-ten_apart (negsuc n) u v e = let s : v ≡ u + suc n = omega (arith, ints) in let p = ap (λ z. 10 ^ z) s ∙ pow-add 10 u (suc n) in omega (arith, p)
-
--- ---- words
-times_ten : (x : ℤ) (a b m : ℕ) → a + m ≡ b → (x *ℤ pos (10 ^ a)) *ℤ pos (10 ^ m) ≡ x *ℤ pos (10 ^ b)
-times_ten x a b m e = *ℤ_assoc x (pos (10 ^ a)) (pos (10 ^ m)) ∙ ap (λ z. x *ℤ pos z) (sym (pow-add 10 a m) ∙ ap (λ z. 10 ^ z) e)
-
--- the word of x times 10^a, scaled by 10^(b - a), holds x times 10^b
-pub holds_to_power : (k : ℤ) (a b : ℕ) (w : Interval) (x : ℤ) (s : ℕ) → k ≡ pos b -ℤ pos a → 0 < s → Holds w (x *ℤ pos (10 ^ a)) s → Holds (interval_scale10 w k) (x *ℤ pos (10 ^ b)) s
-holds_to_power (pos m) a b w x s is some h =
-    subst (λ z. Holds (interval_scale10 w (pos m)) z s) (times_ten x a b m (omega (arith, ints))) (holds_raised m w (x *ℤ pos (10 ^ a)) s h)
-holds_to_power (negsuc m) a b w x s is some h =
-    let e = times_ten x b a (suc m) (omega (arith, ints)) in
-    holds_same (interval_scale10 w (negsuc m)) (x *ℤ pos (10 ^ a)) (x *ℤ pos (10 ^ b)) (10 ^ suc m * s) s (mul-pos (Powers.ten_above (suc m)) some)
-    (ap (λ z. z *ℤ pos s) (sym e) ∙ *ℤ_assoc (x *ℤ pos (10 ^ b)) (pos (10 ^ suc m)) (pos s))
-    (holds_lowered m w (x *ℤ pos (10 ^ a)) s h)
+-- the interval of x / q times 10^k, scaled by 10^l, holds x / q times 10^b, where k + l = b
+pub holds_to_power : (w : Interval) (x y : ℤ) (q r b : ℕ) (k l : ℤ) → k +ℤ l ≡ pos b → 0 < q → 0 < r → TimesPower x q k y r → Holds w y r → Holds (interval_scale10 w l) (x *ℤ pos (10 ^ b)) q
+holds_to_power w x y q r b k l is some any t h =
+    let raised = times_then y x (x *ℤ pos (10 ^ b)) r q q (neg_ℤ k) (pos b) some (times_back x y q r k t) (times_raised x q b) in
+    holds_power w y (x *ℤ pos (10 ^ b)) r q l any (times_same y (x *ℤ pos (10 ^ b)) r q (neg_ℤ k +ℤ pos b) l (omega (arith, ints)) raised) h
 
 decimal_crossed : (m : ℤ) (t u b c k : ℕ) → m *ℤ pos (t * b) ≡ (m *ℤ pos k) *ℤ pos (u * c) → (m *ℤ pos t) *ℤ pos b ≡ ((m *ℤ pos u) *ℤ pos k) *ℤ pos c
 decimal_crossed m t u b c k h =

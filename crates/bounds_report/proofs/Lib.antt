@@ -5,7 +5,6 @@ pub mod Law
 pub mod LawBetween
 pub mod LawDifferences
 pub mod LawResidual
-pub mod LawSystems
 pub mod LawWords
 pub mod PrintingLaws
 pub mod ResidualLaws

@@ -9,15 +9,15 @@ use Rattle.bounds_report.specs.Digits.{rounded_at, to_15_digits}
 
 pub ruleset ten_rules = (ten_le, ten_pow_above)
 
--- a number of at most 34 digits has 15 before its last 19
-pub digits_last : (n k : ℕ) → n ≤ 10 ^ 33 → 19 ≤ k → k ≤ 19 → nat_lt n (10 ^ (15 + k)) ≡ true
-digits_last n k h l m = let e : k ≡ 19 = omega arith in rw e (grind (arith, nat_tests))
+-- a number of at most 38 digits has 15 before its last 23
+pub digits_last : (n k : ℕ) → n ≤ 10 ^ 37 → 23 ≤ k → k ≤ 23 → nat_lt n (10 ^ (15 + k)) ≡ true
+digits_last n k h l m = let e : k ≡ 23 = omega arith in rw e (grind (arith, nat_tests))
 
-pub rounded_small : (n k : ℕ) → n ≤ 10 ^ 33 → k ≤ 19 → (n + 10 ^ k / 2) / 10 ^ k * 10 ^ k ≤ n + 10 ^ k / 2
+pub rounded_small : (n k : ℕ) → n ≤ 10 ^ 37 → k ≤ 23 → (n + 10 ^ k / 2) / 10 ^ k * 10 ^ k ≤ n + 10 ^ k / 2
 rounded_small n k h l = div-mul-le_self (n + 10 ^ k / 2) (10 ^ k)
 
-pub ten_small : (k : ℕ) → k ≤ 19 → 10 ^ k ≤ 10 ^ 19
-ten_small k h = ten_le k 19 h
+pub ten_small : (k : ℕ) → k ≤ 23 → 10 ^ k ≤ 10 ^ 23
+ten_small k h = ten_le k 23 h
 
 pub ruleset rounded_rules = (rounded_small, ten_small)
 

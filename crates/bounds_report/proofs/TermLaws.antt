@@ -80,12 +80,12 @@ ends_ordered m k = floor_scaled_le_ceil m m k (omega (arith, ints))
 pub ruleset word_rules = (to_z-of_z, ends_ordered, apriori_small)
 
 -- ---- the estimate in units of 10^-16
-raised_small : (y : ℤ) (k : ℕ) → unsigned_abs y ≤ 2 ^ 64 → k ≤ 13 → unsigned_abs (y *ℤ pos (10 ^ k)) ≤ 2 ^ 64 * 10 ^ 13
+raised_small : (y : ℤ) (k : ℕ) → unsigned_abs y ≤ 2 ^ 64 → k ≤ 17 → unsigned_abs (y *ℤ pos (10 ^ k)) ≤ 2 ^ 64 * 10 ^ 17
 raised_small y k h l =
-    let p = mul-le-mul h (ten_le k 13 l) in
+    let p = mul-le-mul h (ten_le k 17 l) in
     omega (arith, unsigned_abs-mul y (pos (10 ^ k)), p)
 
-pub term_small : (y z : ℤ) → unsigned_abs y ≤ 2 ^ 64 → z ≤ℤ pos 13 → unsigned_abs (floor_scaled y z) ≤ 2 ^ 64 * 10 ^ 13
+pub term_small : (y z : ℤ) → unsigned_abs y ≤ 2 ^ 64 → z ≤ℤ pos 17 → unsigned_abs (floor_scaled y z) ≤ 2 ^ 64 * 10 ^ 17
 term_small y (pos k) h l = raised_small y k h (omega (arith, ints))
 term_small y (negsuc k) h l = let t = quotient_small y (10 ^ suc k) (ten_pow_above (suc k)) in omega (arith, t)
 

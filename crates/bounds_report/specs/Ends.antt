@@ -2,7 +2,7 @@
 use Rattle.std.specs.Prelude.{◌≡◌, ◌≤◌, ◌<◌, ◌^◌, ℕ, pos, unsigned_abs, ⊤, List, length, slice_index_or}
 use Rattle.bounds_report.specs.Printing.{lower_of, upper_of, estimate_of, IsPrintable}
 use Rattle.bounds_report.specs.Refusals.{IsFirstUnprintable}
-use Rattle.bounds_report.specs.Rows.{RowLists, row_count, exponent_at, apriori_at, vector_at, radius_at}
+use Rattle.bounds_report.specs.Rows.{RowLists, row_count, power_at, apriori_at, vector_at, radius_at}
 use Rattle.bounds_report.specs.declared.ends.Ends.{Ends}
 use Rattle.bounds_report.specs.declared.PrintError.{PrintError}
 use Rattle.bounds_report.specs.declared.PrintError.TheVariants.{Range, Memory}
@@ -16,18 +16,18 @@ pub record AreLimited (e : Ends) : Type 0 where
 -- the bounds and the estimate of row i
 abbrev pub ends_of : RowLists → ℕ → Ends
 ends_of r i = record {
-  lower = lower_of (apriori_at r i) (exponent_at r i) (vector_at r i) (radius_at r i);
-  upper = upper_of (apriori_at r i) (exponent_at r i) (vector_at r i) (radius_at r i);
-  estimate = estimate_of (apriori_at r i) (exponent_at r i) (vector_at r i);
+  lower = lower_of (apriori_at r i) (power_at r i) (vector_at r i) (radius_at r i);
+  upper = upper_of (apriori_at r i) (power_at r i) (vector_at r i) (radius_at r i);
+  estimate = estimate_of (apriori_at r i) (power_at r i) (vector_at r i);
 }
 
 -- they can be printed
 abbrev pub IsRowPrintable : RowLists → ℕ → Type 0
-IsRowPrintable r i = IsPrintable (apriori_at r i) (exponent_at r i) (vector_at r i) (radius_at r i)
+IsRowPrintable r i = IsPrintable (apriori_at r i) (power_at r i) (vector_at r i) (radius_at r i)
 
 -- row i is the first of which they can't
 abbrev pub IsFirstRefused : RowLists → ℕ → Type 0
-IsFirstRefused r i = IsFirstUnprintable (row_count r) (exponent_at r) (apriori_at r) (vector_at r) (radius_at r) i
+IsFirstRefused r i = IsFirstUnprintable (row_count r) (power_at r) (apriori_at r) (vector_at r) (radius_at r) i
 
 -- the ends of a list
 abbrev pub ends_at : List Ends → ℕ → Ends

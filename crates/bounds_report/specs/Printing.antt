@@ -1,20 +1,35 @@
 -- The numbers that are printed of each row: bounds and estimate in units of 10^-16, and the residual of the estimates.
 --
--- t is the working table with the exponents e, x0 the a priori values, y the start vector and w the radii; one unit of y in
--- row i is 10^-(12 + e_i). The scales and bounds are this program's own.
-use Rattle.std.specs.Prelude.{◌≡◌, ◌≤◌, ◌<◌, ◌^◌, ℕ, ℤ, pos, ◌+ℤ◌, ◌-ℤ◌, ◌*ℤ◌, nat_le, if◌then◌else◌, unsigned_abs, List, length, slice_index_or}
+-- t is the working table, x0 the a priori values, y the start vector and w the radii. e_i is the power of row i: its exponent in the
+-- working table plus the scale exponent of its parameter, so that one unit of y in row i is 10^-(12 + e_i) of the parameter's own. The
+-- scales and bounds are this program's own.
+use Rattle.std.specs.Prelude.{◌≡◌, ◌≤◌, ◌<◌, ◌^◌, ℕ, ℤ, pos, negsuc, ◌+ℤ◌, ◌-ℤ◌, ◌*ℤ◌, ◌≤ℤ◌, nat_le, if◌then◌else◌, unsigned_abs, List, length, slice_index_or}
 use Rattle.whole_numbers.specs.Sum.{total_to}
 use Rattle.whole_numbers.specs.Intervals.{Interval, size, point_interval, interval_sub, interval_mul, sum_intervals}
 use Rattle.whole_numbers.specs.Scaling.{floor_scaled, ceil_scaled, interval_scale10}
 use Rattle.decimal_e.specs.Decimals.{Decimal}
 use Rattle.decimal_e.specs.Scales.{decimal_interval}
+use Rattle.whole_numbers.specs.Lists.{at}
 use Rattle.sys_model.specs.Systems.{Table}
+use Rattle.equil.specs.Tables.{exponent_of}
 use Rattle.bounds_report.specs.Digits.{to_15_digits}
 use Rattle.bounds_report.specs.declared.numbers.Printed.{Printed}
 
 -- the decimals of a list
 abbrev pub decimal_at : List Decimal → ℕ → Decimal
 decimal_at ds i = slice_index_or ds i (record { mant = pos 0; exp = pos 0 })
+
+-- the power of row i, from the exponents of the working table and the scale exponents of the parameters
+abbrev pub row_power : List ℤ → List ℤ → ℕ → ℤ
+row_power exponents scales i = exponent_of exponents i +ℤ at scales i
+
+-- a scale exponent is from -4 to 6
+pub record IsScaleExponent (t : ℤ) : Type 0 where
+  pub least : negsuc 3 ≤ℤ t
+  pub most : t ≤ℤ pos 6
+
+abbrev pub AreScaleExponents : List ℤ → Type 0
+AreScaleExponents scales = (i : ℕ) → i < length scales → IsScaleExponent (at scales i)
 
 -- what the radius and the start vector add to the ends of the a priori value
 abbrev pub low_term : ℤ → ℤ → ℕ → ℤ

@@ -7,7 +7,7 @@ use Rattle.bounds_report.specs.Differences.{word_at}
 use Rattle.bounds_report.specs.Ends.{ends_at}
 use Rattle.bounds_report.specs.Printing.{ArePrinted}
 use Rattle.bounds_report.specs.Refusals.{IsPrintRefused}
-use Rattle.bounds_report.specs.Rows.{RowLists, exponent_at, apriori_at, vector_at, radius_at}
+use Rattle.bounds_report.specs.Rows.{RowLists, power_at, apriori_at, vector_at, radius_at}
 use Rattle.bounds_report.specs.declared.ends.Ends.{Ends}
 use Rattle.bounds_report.specs.declared.numbers.Printed.{Printed}
 use Rattle.bounds_report.specs.declared.PrintError.{PrintError}
@@ -37,7 +37,7 @@ numbers_from n t e es zs i = record {
 
 -- the printed numbers of the rows, by the table with its n rows
 abbrev pub AreRowsPrinted : ℕ → Table → RowLists → List Printed → Type 0
-AreRowsPrinted n t r ps = ArePrinted n t (exponent_at r) (apriori_at r) (vector_at r) (radius_at r) ps
+AreRowsPrinted n t r ps = ArePrinted n t (power_at r) (apriori_at r) (vector_at r) (radius_at r) ps
 
 abbrev pub AreRowsRefused : ℕ → RowLists → PrintError → Type 0
-AreRowsRefused n r refusal = IsPrintRefused n (exponent_at r) (apriori_at r) (vector_at r) (radius_at r) refusal
+AreRowsRefused n r refusal = IsPrintRefused n (power_at r) (apriori_at r) (vector_at r) (radius_at r) refusal

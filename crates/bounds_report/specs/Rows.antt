@@ -5,11 +5,13 @@ use Rattle.decimal_e.specs.Fractions.{IsAtMost}
 use Rattle.equil.specs.Exponents.{IsInRange}
 use Rattle.equil.specs.Tables.{exponent_of}
 use Rattle.whole_numbers.specs.Lists.{at}
-use Rattle.bounds_report.specs.Printing.{decimal_at}
+use Rattle.bounds_report.specs.Printing.{decimal_at, row_power, IsScaleExponent}
 
--- the exponents, the a priori values, the start vector and the radii, row by row
+-- the exponents of the working table, the scale exponents of the parameters, the a priori values, the start vector and the radii, row
+-- by row
 pub record RowLists : Type 0 where
   pub exponents : List ℤ
+  pub scales : List ℤ
   pub apriori : List Decimal
   pub vector : List ℤ
   pub radii : List ℕ
@@ -17,8 +19,8 @@ pub record RowLists : Type 0 where
 abbrev pub row_count : RowLists → ℕ
 row_count r = length r.apriori
 
-abbrev pub exponent_at : RowLists → ℕ → ℤ
-exponent_at r i = exponent_of r.exponents i
+abbrev pub power_at : RowLists → ℕ → ℤ
+power_at r i = row_power r.exponents r.scales i
 
 abbrev pub apriori_at : RowLists → ℕ → Decimal
 apriori_at r i = decimal_at r.apriori i
@@ -32,9 +34,11 @@ radius_at r i = slice_index_or r.radii i 0
 -- the lists have one length, and their numbers are within these bounds
 pub record AreRows (r : RowLists) : Type 0 where
   pub exponents : length r.exponents ≡ row_count r
+  pub scales : length r.scales ≡ row_count r
   pub vector : length r.vector ≡ row_count r
   pub radii : length r.radii ≡ row_count r
-  pub exponent : (i : ℕ) → i < row_count r → IsInRange (exponent_at r i)
+  pub exponent : (i : ℕ) → i < row_count r → IsInRange (exponent_of r.exponents i)
+  pub scale : (i : ℕ) → i < row_count r → IsScaleExponent (at r.scales i)
   pub apriori : (i : ℕ) → i < row_count r → IsAtMost (10 ^ 12) (apriori_at r i)
   pub start : (i : ℕ) → i < row_count r → unsigned_abs (vector_at r i) ≤ 2 ^ 64
   pub radius : (i : ℕ) → i < row_count r → radius_at r i ≤ 2 ^ 97

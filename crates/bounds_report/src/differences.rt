@@ -6,7 +6,7 @@ ghost use Rattle.decimal_e.specs.Fractions.{IsAtMost};
 ghost use Rattle.bounds_report.specs.Differences.{difference_of, AreDifferencesOf, IsFirstFarRow};
 ghost use Rattle.bounds_report.specs.Ends.{AreEnds, ends_of, IfRange};
 ghost use Rattle.bounds_report.specs.Printing.{difference};
-ghost use Rattle.bounds_report.specs.Rows.{row_count, exponent_at};
+ghost use Rattle.bounds_report.specs.Rows.{row_count, power_at};
 
 use crate::PrintError;
 use crate::ends::Ends;
@@ -54,9 +54,9 @@ fn distance(x0: &Dec, estimate: i128) -> Iv
 /// The power of ten from 10^20 to the working unit of a row.
 fn working_power(rows: &Rows, i: usize) -> i32
     requires { i < row_count rows.now }
-    ensures { result ≡ exponent_at rows.now i -ℤ pos 8 }
+    ensures { result ≡ power_at rows.now i -ℤ pos 8 }
 {
-    rows.exponent(i) - 8
+    rows.power(i) - 8
 }
 
 /// The difference of a row with this estimate, and None exactly where it is greater than the limit in size.

@@ -1,17 +1,18 @@
 //! What the numbers of the rows are made from.
 
-ghost use Rattle.std.specs.Prelude.{◌≡◌, ◌≤◌, ◌<◌, ◌^◌, unsigned_abs};
+ghost use Rattle.std.specs.Prelude.{◌≡◌, ◌≤◌, ◌<◌, ◌^◌, pos, negsuc, ◌≤ℤ◌, unsigned_abs};
 ghost use Rattle.decimal_e.specs.Fractions.{IsAtMost};
-ghost use Rattle.equil.specs.Exponents.{IsInRange};
-ghost use Rattle.bounds_report.specs.Rows.{AreRows, row_count, exponent_at, apriori_at, vector_at, radius_at};
+ghost use Rattle.bounds_report.specs.Rows.{AreRows, row_count, power_at, apriori_at, vector_at, radius_at};
 
 use decimal_e::Dec;
 use std::marker::Model;
 
-/// Row by row the exponents, the a priori values, the start vector and the radii.
+/// Row by row the exponents of the working table, the scale exponents of the parameters, the a priori values, the start vector and
+/// the radii.
 #[derive(Drop)]
 pub struct Rows<'a> {
     exponents: &'a [i32],
+    scales: &'a [i32],
     apriori: &'a [Dec],
     vector: &'a [i128],
     radii: &'a [u128],
@@ -22,24 +23,26 @@ impl<'a> Model for Rows<'a> {
 
     ghost Value = { RowLists };
 
-    ghost view = { λ r. record { exponents = r.exponents.now; apriori = r.apriori.now; vector = r.vector.now; radii = r.radii.now } };
+    ghost view = { λ r. record { exponents = r.exponents.now; scales = r.scales.now; apriori = r.apriori.now; vector = r.vector.now; radii = r.radii.now } };
 
-    ghost invariant = { λ r. AreRows (record { exponents = r.exponents.now; apriori = r.apriori.now; vector = r.vector.now; radii = r.radii.now }) };
+    ghost invariant = { λ r. AreRows (record { exponents = r.exponents.now; scales = r.scales.now; apriori = r.apriori.now; vector = r.vector.now; radii = r.radii.now }) };
 }
 
 impl<'a> Rows<'a> {
-    /// The rows of four lists.
+    /// The rows of five lists.
     pub fn new(
         exponents: &'a [i32],
+        scales: &'a [i32],
         apriori: &'a [Dec],
         vector: &'a [i128],
         radii: &'a [u128],
     ) -> Rows<'a>
-        requires { AreRows (record { exponents = exponents.now; apriori = apriori.now; vector = vector.now; radii = radii.now }) }
-        ensures { result ≡ record { exponents = exponents.now; apriori = apriori.now; vector = vector.now; radii = radii.now } }
+        requires { AreRows (record { exponents = exponents.now; scales = scales.now; apriori = apriori.now; vector = vector.now; radii = radii.now }) }
+        ensures { result ≡ record { exponents = exponents.now; scales = scales.now; apriori = apriori.now; vector = vector.now; radii = radii.now } }
     {
         Rows {
             exponents,
+            scales,
             apriori,
             vector,
             radii,
@@ -53,14 +56,16 @@ impl<'a> Rows<'a> {
         self.apriori.len()
     }
 
-    /// The exponent of a row.
-    pub fn exponent(&self, i: usize) -> i32
+    /// The power of a row: its exponent plus the scale exponent of its parameter.
+    pub fn power(&self, i: usize) -> i32
         requires { i < row_count self.now }
-        ensures value { result ≡ exponent_at self.now i }
-        ensures range { IsInRange result }
+        ensures value { result ≡ power_at self.now i }
+        ensures least { negsuc 12 ≤ℤ result }
+        ensures most { result ≤ℤ pos 17 }
     {
         let exponents = self.exponents;
-        exponents[i]
+        let scales = self.scales;
+        exponents[i] + scales[i]
     }
 
     /// The a priori value of a row.

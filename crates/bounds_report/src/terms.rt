@@ -7,7 +7,7 @@ ghost use Rattle.whole_numbers.specs.Scaling.{floor_scaled};
 ghost use Rattle.decimal_e.specs.Fractions.{IsAtMost};
 ghost use Rattle.decimal_e.specs.Scales.{decimal_interval};
 ghost use Rattle.bounds_report.specs.Printing.{low_term, high_term, estimate_of};
-ghost use Rattle.bounds_report.specs.Rows.{row_count, exponent_at, apriori_at, vector_at, radius_at};
+ghost use Rattle.bounds_report.specs.Rows.{row_count, power_at, apriori_at, vector_at, radius_at};
 
 use crate::rounding::to_15_digits;
 use crate::rows::Rows;
@@ -54,10 +54,10 @@ pub fn printed_word(rows: &Rows, i: usize) -> Iv
 /// The power of ten from the working unit of a row to the printed one.
 fn printed_power(rows: &Rows, i: usize) -> i32
     requires { i < row_count rows.now }
-    ensures value { result ≡ pos 4 -ℤ exponent_at rows.now i }
-    ensures bound { result ≤ℤ pos 13 }
+    ensures value { result ≡ pos 4 -ℤ power_at rows.now i }
+    ensures bound { result ≤ℤ pos 17 }
 {
-    4 - rows.exponent(i)
+    4 - rows.power(i)
 }
 
 /// The start vector of a row minus its radius.
@@ -79,7 +79,7 @@ fn high_end(rows: &Rows, i: usize) -> i128
 /// What is added to the low end of a row's a priori value, and None exactly where it passes 10^37 in size.
 pub fn low_term(rows: &Rows, i: usize) -> Option<i128>
     requires { i < row_count rows.now }
-    ensures { let term = low_term (exponent_at rows.now i) (vector_at rows.now i) (radius_at rows.now i) in SomeIff result (unsigned_abs term ≤ 10 ^ 37) term }
+    ensures { let term = low_term (power_at rows.now i) (vector_at rows.now i) (radius_at rows.now i) in SomeIff result (unsigned_abs term ≤ 10 ^ 37) term }
 {
     scale_floor(low_end(rows, i), printed_power(rows, i))
 }
@@ -87,7 +87,7 @@ pub fn low_term(rows: &Rows, i: usize) -> Option<i128>
 /// What is added to the high end of a row's a priori value, and None exactly where it passes 10^37 in size.
 pub fn high_term(rows: &Rows, i: usize) -> Option<i128>
     requires { i < row_count rows.now }
-    ensures { let term = high_term (exponent_at rows.now i) (vector_at rows.now i) (radius_at rows.now i) in SomeIff result (unsigned_abs term ≤ 10 ^ 37) term }
+    ensures { let term = high_term (power_at rows.now i) (vector_at rows.now i) (radius_at rows.now i) in SomeIff result (unsigned_abs term ≤ 10 ^ 37) term }
 {
     scale_ceil(high_end(rows, i), printed_power(rows, i))
 }
@@ -96,8 +96,8 @@ pub fn high_term(rows: &Rows, i: usize) -> Option<i128>
 #[tactic(auto, using(crate::proofs::TermLaws::middle_rules))]
 fn middle_term(rows: &Rows, i: usize) -> i128
     requires { i < row_count rows.now }
-    ensures value { result ≡ floor_scaled (vector_at rows.now i) (pos 4 -ℤ exponent_at rows.now i) }
-    ensures bound { unsigned_abs result ≤ 2 ^ 64 * 10 ^ 13 }
+    ensures value { result ≡ floor_scaled (vector_at rows.now i) (pos 4 -ℤ power_at rows.now i) }
+    ensures bound { unsigned_abs result ≤ 2 ^ 64 * 10 ^ 17 }
 {
     match scale_floor(rows.vector(i), printed_power(rows, i)) {
         Some(term) => term,
@@ -108,8 +108,8 @@ fn middle_term(rows: &Rows, i: usize) -> i128
 /// A row's a priori value and its start vector, rounded down.
 fn middle(rows: &Rows, i: usize) -> i128
     requires { i < row_count rows.now }
-    ensures value { result ≡ (decimal_interval (apriori_at rows.now i) (pos 16)).lo +ℤ floor_scaled (vector_at rows.now i) (pos 4 -ℤ exponent_at rows.now i) }
-    ensures bound { unsigned_abs result ≤ 10 ^ 33 }
+    ensures value { result ≡ (decimal_interval (apriori_at rows.now i) (pos 16)).lo +ℤ floor_scaled (vector_at rows.now i) (pos 4 -ℤ power_at rows.now i) }
+    ensures bound { unsigned_abs result ≤ 10 ^ 37 }
 {
     printed_word(rows, i).lo() + middle_term(rows, i)
 }
@@ -117,8 +117,8 @@ fn middle(rows: &Rows, i: usize) -> i128
 /// The estimate of a row: its a priori value and its start vector, rounded to 15 digits.
 pub fn estimate(rows: &Rows, i: usize) -> i128
     requires { i < row_count rows.now }
-    ensures value { result ≡ estimate_of (apriori_at rows.now i) (exponent_at rows.now i) (vector_at rows.now i) }
-    ensures bound { unsigned_abs result ≤ 10 ^ 34 }
+    ensures value { result ≡ estimate_of (apriori_at rows.now i) (power_at rows.now i) (vector_at rows.now i) }
+    ensures bound { unsigned_abs result ≤ 10 ^ 38 }
 {
     to_15_digits(middle(rows, i))
 }

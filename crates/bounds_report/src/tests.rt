@@ -1,21 +1,22 @@
-//! The numbers of tables with one row.
+//! The numbers of tables with two rows.
 
-ghost use Rattle.std.specs.Prelude.{◌≡◌, ◌≤◌, ◌^◌, IfSome, length, slice_index_or, vec_len};
+ghost use Rattle.std.specs.Prelude.{◌≡◌, ◌≤◌, ◌^◌, IfSome, vec_len};
 ghost use Rattle.decimal_e.specs.Fractions.{IsAtMost};
+ghost use Rattle.bounds_report.specs.Printing.{IsScaleExponent};
+ghost use Rattle.enclosures.specs.Vectors.{IsSmall};
 ghost use Rattle.whole_numbers.specs.Lists.{at};
-ghost use Rattle.enclosure_check.specs.Vectors.{IsSmall};
 
 use super::*;
-use chol_guess::Pilot;
 use decimal_e::Dec;
-use enclosure_check::{Enclosed, Radius};
+use enclosures::{Enclosed, Pilot, Radius};
 use equil::{Working, working};
 use interval_word::Iv;
 use std::alloc::Global;
 use std::test::Fail;
 use sym_blocks::SymBlock;
 
-// One row: matrix and vector at 10^18, the a priori value at 10^4, the start vector and its radius.
+// One row: matrix and vector as they stand in the stack, the a priori value at 10^4, the start vector and its radius, and the scale
+// exponent.
 #[derive(Clone, Copy)]
 struct Row {
     matrix: i128,
@@ -23,60 +24,212 @@ struct Row {
     apriori: i64,
     start: i64,
     radius: u128,
+    scale: i32,
 }
 
-// Rows with their numbers, as worked by hand.
-const PRINTED: [(Row, Printed); 2] = [
+// Two rows, and the element between them.
+#[derive(Clone, Copy)]
+struct Pair {
+    rows: [Row; 2],
+    coupling: i128,
+}
+
+const HALF: Row = Row {
+    matrix: 4_000_000_000_000_000_000,
+    vector: 2_000_000_000_000_000_000,
+    apriori: 10_000,
+    start: 5_000_000_000_000,
+    radius: 0,
+    scale: 0,
+};
+
+const THIRD: Row = Row {
+    matrix: 3_000_000_000_000_000_000,
+    vector: 1_000_000_000_000_000_000,
+    apriori: 0,
+    start: 3_333_333_333_333,
+    radius: 2,
+    scale: 0,
+};
+
+// The exponent is 11, and the estimate is 0.0005 from the a priori value: 5 * 10^15 units with the scale exponent -4, and more than
+// 2^65 with 0.
+const FAR: Row = Row {
+    matrix: i128::MAX,
+    vector: 0,
+    apriori: 1_234_567_890_120_005,
+    start: 0,
+    radius: 0,
+    scale: -4,
+};
+
+const THIRD_NUMBERS: Printed = Printed {
+    estimate: 3_333_333_333_333_000,
+    lower: 3_333_333_333_331_000,
+    upper: 3_333_333_333_335_000,
+    residual: 10_000_000_000_000_000,
+    place: -29,
+};
+
+// Pairs with their numbers. The first is worked by hand. The others were computed apart from the program, by exact fractions: the
+// working table, start vector and radii in units of 10^-(12 + e + t), as tools/solve.py computes them for t = 0, with e + t for e. In
+// the third pair e + t is -13 and 17.
+const PRINTED: [(Pair, [Printed; 2]); 4] = [
     (
-        Row {
-            matrix: 4_000_000_000_000_000_000,
-            vector: 2_000_000_000_000_000_000,
-            apriori: 10_000,
-            start: 5_000_000_000_000,
-            radius: 0,
+        Pair {
+            rows: [HALF, THIRD],
+            coupling: 0,
         },
-        Printed {
-            estimate: 15_000_000_000_000_000,
-            lower: 15_000_000_000_000_000,
-            upper: 15_000_000_000_000_000,
-            residual: 0,
-            place: -29,
-        },
+        [
+            Printed {
+                estimate: 15_000_000_000_000_000,
+                lower: 15_000_000_000_000_000,
+                upper: 15_000_000_000_000_000,
+                residual: 0,
+                place: -29,
+            },
+            THIRD_NUMBERS,
+        ],
     ),
     (
-        Row {
-            matrix: 3_000_000_000_000_000_000,
-            vector: 1_000_000_000_000_000_000,
-            apriori: 0,
-            start: 3_333_333_333_333,
-            radius: 2,
+        Pair {
+            rows: [
+                Row {
+                    matrix: 4_000_000_000_000_000_000,
+                    vector: 2_000_000_000_000_000_000,
+                    apriori: -25_000,
+                    start: 1_234_567_890_123,
+                    radius: 3,
+                    scale: -4,
+                },
+                Row {
+                    matrix: 3_000_000_000_000_000_000,
+                    vector: 1_000_000_000_000_000_000,
+                    apriori: 12_345,
+                    start: 7_777_777_777_777,
+                    radius: 2,
+                    scale: 6,
+                },
+            ],
+            coupling: 1_000_000_000_000_000_000,
         },
-        Printed {
-            estimate: 3_333_333_333_333_000,
-            lower: 3_333_333_333_331_000,
-            upper: 3_333_333_333_335_000,
-            residual: 10_000_000_000_000_000,
-            place: -29,
+        [
+            Printed {
+                estimate: 12_320_678_901_230_000_000,
+                lower: 12_320_678_901_200_000_000,
+                upper: 12_320_678_901_260_000_000,
+                residual: 72_839_506_395_080_000_000_000_000_000,
+                place: -33,
+            },
+            Printed {
+                estimate: 12_345_007_777_777_800,
+                lower: 12_345_007_777_777_777,
+                upper: 12_345_007_777_777_778,
+                residual: 145_679_012_901_230_000_000_000_000_000,
+                place: -23,
+            },
+        ],
+    ),
+    (
+        Pair {
+            rows: [
+                Row {
+                    matrix: 1,
+                    vector: 3,
+                    apriori: 15_000,
+                    start: 2_999,
+                    radius: 7,
+                    scale: -4,
+                },
+                Row {
+                    matrix: i128::MAX,
+                    vector: -2_000_000_000_000_000_000_000_000_000_000,
+                    apriori: -70_000,
+                    start: 1_152_921_504_606_846_976,
+                    radius: 50_000_000_000_000,
+                    scale: 6,
+                },
+            ],
+            coupling: -2,
         },
+        [
+            Printed {
+                estimate: 299_915_000_000_000_000_000,
+                lower: 299_215_000_000_000_000_000,
+                upper: 300_615_000_000_000_000_000,
+                residual: 2_153_000_000_000_000_000,
+                place: -43,
+            },
+            Printed {
+                estimate: -69_999_999_999_884_700,
+                lower: -69_999_999_999_884_713,
+                upper: -69_999_999_999_884_702,
+                residual: 19_637_278_452_992_103_372_000_000_000_000_000,
+                place: -13,
+            },
+        ],
+    ),
+    (
+        Pair {
+            rows: [FAR, THIRD],
+            coupling: 0,
+        },
+        [
+            Printed {
+                estimate: 1_234_567_890_120_010_000_000_000_000,
+                lower: 1_234_567_890_120_005_000_000_000_000,
+                upper: 1_234_567_890_120_005_000_000_000_000,
+                residual: 85_070_591_730_234_620_000_000_000_000_000,
+                place: -23,
+            },
+            THIRD_NUMBERS,
+        ],
     ),
 ];
 
-// At the exponent -9 a bound passes 10^37. At 11 the estimate is 0.0005 from the a priori value, which is 5 * 10^19 units.
-const REFUSED: [Row; 2] = [
-    Row {
-        matrix: 1,
-        vector: 0,
-        apriori: 0,
-        start: 0,
-        radius: 1 << 97,
-    },
-    Row {
-        matrix: i128::MAX,
-        vector: 0,
-        apriori: 1_234_567_890_120_005,
-        start: 0,
-        radius: 0,
-    },
+// Pairs that are refused, and the row: a bound passes 10^37, a difference passes 2^65, an estimate passes 10^33.
+const REFUSED: [(Pair, usize); 3] = [
+    (
+        Pair {
+            rows: [
+                Row {
+                    matrix: 1,
+                    vector: 0,
+                    apriori: 0,
+                    start: 0,
+                    radius: 1 << 97,
+                    scale: 0,
+                },
+                THIRD,
+            ],
+            coupling: 0,
+        },
+        0,
+    ),
+    (
+        Pair {
+            rows: [Row { scale: 0, ..FAR }, THIRD],
+            coupling: 0,
+        },
+        0,
+    ),
+    (
+        Pair {
+            rows: [
+                THIRD,
+                Row {
+                    matrix: 1,
+                    vector: 0,
+                    apriori: 0,
+                    start: 100_000_000_000_000_000,
+                    radius: 0,
+                    scale: -4,
+                },
+            ],
+            coupling: 0,
+        },
+        1,
+    ),
 ];
 
 fn apriori(at_10_000: i64) -> Option<Dec>
@@ -89,23 +242,38 @@ fn apriori(at_10_000: i64) -> Option<Dec>
     }
 }
 
-fn worked<const N: usize>(alloc: Global, row: &Row) -> Option<Working<N>>
-    ensures { IfSome result (λ w. w.a.size ≡ 1) }
+fn worked<const N: usize>(alloc: Global, pair: &Pair) -> Option<Working<N>>
+    ensures { IfSome result (λ w. w.a.size ≡ 2) }
 {
-    let mut table = SymBlock::<N>::zero(alloc, 1).ok()?;
-    table.set(0, 0, Iv::point(row.matrix));
-    working(alloc, &table, &[Iv::point(row.vector)]).ok()
+    let [first, second] = pair.rows;
+    let mut table = SymBlock::<N>::zero(alloc, 2).ok()?;
+    table.set(0, 0, Iv::point(first.matrix));
+    table.set(1, 0, Iv::point(pair.coupling));
+    table.set(1, 1, Iv::point(second.matrix));
+    working(
+        alloc,
+        &table,
+        &[Iv::point(first.vector), Iv::point(second.vector)],
+    )
+    .ok()
 }
 
-fn enclosed(alloc: Global, row: &Row) -> Option<Enclosed>
-    ensures vector { IfSome result (λ e. vec_len e.y ≡ 1) }
-    ensures small { IfSome result (λ e. IsSmall 1 (at e.y.items)) }
-    ensures radii { IfSome result (λ e. length e.radius.w.items ≡ 1) }
-    ensures bounded { IfSome result (λ e. slice_index_or e.radius.w.items 0 0 ≤ 2 ^ 97) }
+fn two_numbers(alloc: Global, a: i64, b: i64) -> Option<Vec<i128>>
+    ensures len { IfSome result (λ y. vec_len y ≡ 2) }
+    ensures small { IfSome result (λ y. IsSmall 2 (at y.items)) }
 {
-    let pilot = Pilot::from_words(0, 1, [0].to_vec(alloc).ok()?)?;
-    let y = [i128::from(row.start)].to_vec(alloc).ok()?;
-    let w = [row.radius.min(1 << 97)].to_vec(alloc).ok()?;
+    [i128::from(a), i128::from(b)].to_vec(alloc).ok()
+}
+
+fn enclosed(alloc: Global, pair: &Pair) -> Option<Enclosed>
+    ensures { IfSome result (λ e. e.pilot.size ≡ 2) }
+{
+    let [first, second] = pair.rows;
+    let pilot = Pilot::from_words(0, 2, [0, 0, 0, 0].to_vec(alloc).ok()?)?;
+    let y = two_numbers(alloc, first.start, second.start)?;
+    let w = [first.radius.min(1 << 97), second.radius.min(1 << 97)]
+        .to_vec(alloc)
+        .ok()?;
     Some(Enclosed {
         pilot,
         y,
@@ -113,12 +281,24 @@ fn enclosed(alloc: Global, row: &Row) -> Option<Enclosed>
     })
 }
 
-fn answer<const N: usize>(alloc: Global, row: &Row) -> Option<Result<Printed, PrintError>> {
-    let x0 = apriori(row.apriori)?;
-    let w = worked::<N>(alloc, row)?;
-    let e = enclosed(alloc, row)?;
-    match printed(alloc, &[x0], &w, &e) {
-        Ok(rows) => rows.first().copied().map(Ok),
+// A scale exponent, and 0 in the place of a number that is none.
+fn scale(t: i32) -> i32
+    ensures { IsScaleExponent result }
+{
+    if -4 <= t && t <= 6 { t } else { 0 }
+}
+
+fn answer<const N: usize>(alloc: Global, pair: &Pair) -> Option<Result<[Printed; 2], PrintError>> {
+    let [first, second] = pair.rows;
+    let x0 = [apriori(first.apriori)?, apriori(second.apriori)?];
+    let scales = [scale(first.scale), scale(second.scale)];
+    let w = worked::<N>(alloc, pair)?;
+    let e = enclosed(alloc, pair)?;
+    match printed(alloc, &x0, &scales, &w, &e) {
+        Ok(rows) => match rows.as_slice() {
+            [one, two] => Some(Ok([*one, *two])),
+            _ => None,
+        },
         Err(refusal) => Some(Err(refusal)),
     }
 }
@@ -126,24 +306,24 @@ fn answer<const N: usize>(alloc: Global, row: &Row) -> Option<Result<Printed, Pr
 fn crosses_threads<T: Send + Sync>() {}
 
 #[test]
-fn one_row(rt: HostRuntime) -> Result<(), Fail> {
+fn two_rows(rt: HostRuntime) -> Result<(), Fail> {
     crosses_threads::<Printed>();
     crosses_threads::<PrintError>();
     let alloc = rt.alloc();
-    for (row, expected) in PRINTED {
+    for (pair, expected) in PRINTED {
         assert_eq!(rt;
-            answer::<1>(alloc, &row),
+            answer::<1>(alloc, &pair),
             Some(Ok(expected)),
             "{}",
-            row.start
+            pair.rows[0].start
         );
     }
-    for row in REFUSED {
+    for (pair, row) in REFUSED {
         assert_eq!(rt;
-            answer::<3>(alloc, &row),
-            Some(Err(PrintError::Range { row: 0 })),
+            answer::<3>(alloc, &pair),
+            Some(Err(PrintError::Range { row })),
             "{}",
-            row.apriori
+            pair.rows[0].apriori
         );
     }
     Ok(())

@@ -9,7 +9,8 @@ use Rattle.whole_numbers.proofs.Sums.{sum_to_same}
 use Rattle.chol_factor.specs.Factor.{fixed_product, fixed_quotient, HasColumns, IsPivot}
 use Rattle.chol_factor.proofs.Alone.{equal_fixed_products, equal_fixed_quotients, factor_alone, no_pivot_below}
 use Rattle.chol_guess.specs.Columns.{up_left, down_left, IsUp, IsDown, IsInverseColumn, StayInBounds}
-use Rattle.chol_guess.specs.Pilots.{PilotTable, IsPilot, IsCondition, nearest, pilot_word}
+use Rattle.chol_guess.specs.Pilots.{IsPilot, IsCondition, nearest}
+use Rattle.enclosures.specs.Pilots.{PilotTable, pilot_word}
 use Rattle.chol_guess.specs.Rows.{QuotientFits, IsDownFrom}
 
 -- two tables have the same words up to the diagonal, in the rows below n
@@ -200,3 +201,7 @@ condition_alone n m c d a b =
     let low : ¬ (c < d) = λ h. a.here (stay_same n b.f a.f 0 (suc c) (factors_same n m b.f a.f b.factor a.factor) (λ k l. b.before k (omega arith))) in
     let high : ¬ (d < c) = λ h. b.here (stay_same n a.f b.f 0 (suc d) (factors_same n m a.f b.f a.factor b.factor) (λ k l. a.before k (omega arith))) in
     omega arith
+
+-- a table whose pilot is refused has a factor
+pub condition_no_pivot : (n : ℕ) (m : ℕ → ℕ → ℤ) (c j : ℕ) → IsCondition n m c → IsPivot n m j → ⊥
+condition_no_pivot n m c j a b = no_pivot_below n m a.f j n a.factor b b.within

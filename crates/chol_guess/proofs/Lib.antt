@@ -1,5 +1,4 @@
 pub mod Alone
-pub mod AlonePilots
 pub mod Makings
 pub mod Placed
 pub mod Ranges

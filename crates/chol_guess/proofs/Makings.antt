@@ -2,7 +2,8 @@
 use Rattle.std.proofs.Common.{◌≡◌, ◌<◌, ◌∙◌, ℕ, ℤ, List, subst, sym, ap, refl}
 use Rattle.chol_factor.specs.Factor.{HasColumns}
 use Rattle.chol_guess.specs.Made.{IsPilotOf, IsRefusedOf}
-use Rattle.chol_guess.specs.Pilots.{PilotTable, IsPilot, IsCondition, nearest, pilot_word}
+use Rattle.chol_guess.specs.Pilots.{IsPilot, IsCondition, nearest}
+use Rattle.enclosures.specs.Pilots.{PilotTable, pilot_word}
 use Rattle.whole_numbers.specs.Lists.{grid}
 use Rattle.chol_guess.specs.Columns.{IsInverseColumn}
 use Rattle.chol_guess.specs.Refusals.{IsRefused}

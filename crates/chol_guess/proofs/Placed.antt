@@ -2,7 +2,7 @@
 use Rattle.std.proofs.Common.{◌≡◌, ◌<◌, ◌+◌, ◌-◌, ◌∙◌, ℕ, ℤ, List, arith, subst, below_more}
 use Rattle.std.proofs.Math.Decide.{dec_lt}
 use Rattle.chol_guess.specs.Columns.{IsInverseColumn, StayInBounds}
-use Rattle.chol_guess.specs.Pilots.{IsScale}
+use Rattle.enclosures.specs.Pilots.{IsPilotScale}
 use Rattle.chol_guess.specs.Rows.{HasColumn, PlacesColumns, KeepsColumns, IsFirstFailing, FailAbove}
 
 pub placed_stay : (n : ℕ) (f : ℕ → ℕ → ℤ) (g : ℕ) (ws : List ℤ) (c : ℕ) → PlacesColumns n f g ws c → StayInBounds n f g c
@@ -22,11 +22,11 @@ placed_more n f g ws new c within placed kept here =
 not_all_stay : (n : ℕ) (f : ℕ → ℕ → ℤ) (g c : ℕ) → IsFirstFailing n f g c → ¬ (StayInBounds n f g n)
 not_all_stay n f g c first all = first.here (λ k h. all k (let w = first.within in omega arith))
 
-pub next_scale : (g : ℕ) → IsScale g → ¬ (g ≡ 0) → IsScale (g - 10)
+pub next_scale : (g : ℕ) → IsPilotScale g → ¬ (g ≡ 0) → IsPilotScale (g - 10)
 next_scale g scale some = record { most = let m = scale.most in omega arith; tens = let t = scale.tens in omega arith }
 
 -- a scale above the next one is this one or above it
-fails_at : (n : ℕ) (f : ℕ → ℕ → ℤ) (g c h : ℕ) → IsScale g → IsFirstFailing n f g c → FailAbove n f g → IsScale h → g - 10 < h → ¬ (StayInBounds n f h n)
+fails_at : (n : ℕ) (f : ℕ → ℕ → ℤ) (g c h : ℕ) → IsPilotScale g → IsFirstFailing n f g c → FailAbove n f g → IsPilotScale h → g - 10 < h → ¬ (StayInBounds n f h n)
 fails_at n f g c h scale first greater other above =
     elim (dec_lt g h) [
       | yes l ↦ greater h other l
@@ -35,5 +35,5 @@ fails_at n f g c h scale first greater other above =
           subst (λ m. ¬ (StayInBounds n f m n)) e (not_all_stay n f g c first)
     ]
 
-pub fail_next : (n : ℕ) (f : ℕ → ℕ → ℤ) (g c : ℕ) → IsScale g → IsFirstFailing n f g c → FailAbove n f g → FailAbove n f (g - 10)
+pub fail_next : (n : ℕ) (f : ℕ → ℕ → ℤ) (g c : ℕ) → IsPilotScale g → IsFirstFailing n f g c → FailAbove n f g → FailAbove n f (g - 10)
 fail_next n f g c scale first greater h other above = fails_at n f g c h scale first greater other above

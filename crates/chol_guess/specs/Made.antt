@@ -1,6 +1,6 @@
 -- What is made of one factor.
 use Rattle.std.specs.Prelude.{◌≡◌, ℕ, ℤ, ⊤}
-use Rattle.chol_guess.specs.Pilots.{PilotTable, IsScale}
+use Rattle.enclosures.specs.Pilots.{PilotTable, IsPilotScale}
 use Rattle.chol_guess.specs.Rows.{PlacesColumns, FailAbove, IsFailure}
 use Rattle.chol_guess.specs.declared.PilotError.{PilotError}
 use Rattle.chol_guess.specs.declared.PilotError.TheVariants.{Pivot, Condition, Memory}
@@ -8,7 +8,7 @@ use Rattle.chol_guess.specs.declared.PilotError.TheVariants.{Pivot, Condition, M
 -- p has the columns of the factor f with n rows at the greatest scale at which all of them stay in bounds
 pub record IsPilotOf (n : ℕ) (f : ℕ → ℕ → ℤ) (p : PilotTable) : Type 0 where
   pub size : p.size ≡ n
-  pub scale : IsScale p.g
+  pub scale : IsPilotScale p.g
   pub columns : PlacesColumns n f p.g p.words n
   pub greatest : FailAbove n f p.g
 

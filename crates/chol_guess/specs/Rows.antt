@@ -3,7 +3,8 @@ use Rattle.std.specs.Prelude.{◌≡◌, ◌≢◌, ◌≤◌, ◌<◌, ◌*◌,
 use Rattle.chol_factor.specs.Factor.{fixed_quotient}
 use Rattle.whole_numbers.specs.Lists.{at, grid, AllAtMost}
 use Rattle.chol_guess.specs.Columns.{down_left, IsUp, IsInverseColumn, StayInBounds}
-use Rattle.chol_guess.specs.Pilots.{nearest, IsScale}
+use Rattle.chol_guess.specs.Pilots.{nearest}
+use Rattle.enclosures.specs.Pilots.{IsPilotScale}
 
 -- t is the transpose of f with n rows, row by row
 pub record IsTransposed (n : ℕ) (f : ℕ → ℕ → ℤ) (t : List ℤ) : Type 0 where
@@ -77,11 +78,11 @@ pub record IsFirstFailing (n : ℕ) (f : ℕ → ℕ → ℤ) (g c : ℕ) : Type
 
 -- at no greater scale than g do all columns stay in bounds
 abbrev pub FailAbove : ℕ → (ℕ → ℕ → ℤ) → ℕ → Type 0
-FailAbove n f g = (h : ℕ) → IsScale h → g < h → ¬ (StayInBounds n f h n)
+FailAbove n f g = (h : ℕ) → IsPilotScale h → g < h → ¬ (StayInBounds n f h n)
 
 -- g is the greatest scale at which all columns stay in bounds, and the words are those of these
 pub record IsGreatestScale (n : ℕ) (f : ℕ → ℕ → ℤ) (g : ℕ) (words : List ℤ) : Type 0 where
-  pub scale : IsScale g
+  pub scale : IsPilotScale g
   pub columns : PlacesColumns n f g words n
   pub greatest : FailAbove n f g
 

@@ -12,13 +12,12 @@ mod columns;
 mod grids;
 mod kernels;
 mod making;
-mod pilots;
 mod scales;
 #[cfg(test)]
 mod tests;
 
+pub use enclosures::Pilot;
 pub use making::{pilot, pilot_of};
-pub use pilots::Pilot;
 
 /// Why a table has no pilot.
 #[derive(Clone, Copy, Debug, PartialEq, Eq, Error)]

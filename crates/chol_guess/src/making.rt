@@ -1,6 +1,6 @@
 //! The pilot of a working table.
 
-ghost use Rattle.std.specs.Prelude.{◌≤◌, IfOk, IfErr};
+ghost use Rattle.std.specs.Prelude.{◌≡◌, ◌≤◌, ◌*◌, length, IfOk, IfErr};
 ghost use Rattle.chol_factor.specs.Factor.{factor_word, midpoints};
 ghost use Rattle.chol_guess.specs.Made.{IsPilotOf, IsRefusedOf};
 ghost use Rattle.chol_guess.specs.Pilots.{IsPilot};
@@ -8,9 +8,9 @@ ghost use Rattle.chol_guess.specs.Refusals.{IsRefused};
 
 use crate::PilotError;
 use crate::grids::{transpose, zeros};
-use crate::pilots::Pilot;
 use crate::scales::greatest_scale;
 use chol_factor::{Factor, FactorError, factor};
+use enclosures::Pilot;
 use equil::Working;
 use std::alloc::Global;
 use std::thread::Threads;
@@ -19,6 +19,7 @@ use std::thread::Threads;
 /// bounds. Condition comes exactly where there is no such scale, with the first column that fails at the least one.
 pub fn pilot_of(alloc: Global, f: &Factor) -> Result<Pilot, PilotError>
     ensures value { IfOk result (IsPilotOf f.now.size (factor_word f.now)) }
+    ensures square { IfOk result (λ p. length p.words ≡ p.size * p.size) }
     ensures refused { IfErr result (IsRefusedOf f.now.size (factor_word f.now)) }
 {
     let n = f.size();
@@ -27,7 +28,7 @@ pub fn pilot_of(alloc: Global, f: &Factor) -> Result<Pilot, PilotError>
     let mut x = vec![in alloc; 0i64; n]?;
     let mut words = zeros(alloc, n)?;
     match greatest_scale(f, &t, &mut u, &mut x, &mut words) {
-        Ok(g) => Ok(Pilot::made(g, n, words)),
+        Ok(g) => Ok(Pilot::new(g, n, words)),
         Err(col) => Err(PilotError::Condition { col }),
     }
 }
@@ -44,6 +45,7 @@ pub fn pilot<R: Threads + Sync, const N: usize>(
     requires some_workers { 1 ≤ _workers }
     requires few_workers { _workers ≤ 16 }
     ensures value { IfOk result (IsPilot w.now.a.size (midpoints w.now.a)) }
+    ensures square { IfOk result (λ p. length p.words ≡ p.size * p.size) }
     ensures refused { IfErr result (IsRefused w.now.a.size (midpoints w.now.a)) }
 {
     match factor(alloc, w) {

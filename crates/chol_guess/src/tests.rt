@@ -4,7 +4,7 @@ ghost use Rattle.std.specs.Prelude.{◌≡◌, ◌≤◌, ◌<◌, ◌^◌, ℕ,
 ghost use Rattle.whole_numbers.specs.Intervals.{size};
 ghost use Rattle.sym_blocks.specs.Tables.{word};
 
-use crate::{Pilot, PilotError, pilot};
+use crate::{PilotError, pilot};
 use equil::Working;
 use interval_word::Iv;
 use std::alloc::{AllocError, Global};
@@ -117,27 +117,13 @@ fn answers<const N: usize, R: Threads + Sync + Abort + AllocGlobal>(rt: &R) {
     }
 }
 
+fn crosses_threads<T: Send + Sync>() {}
+
 #[test]
 fn pilots_of_each_tile(rt: HostRuntime) -> Result<(), Fail> {
     answers::<1, HostRuntime>(&rt);
     answers::<3, HostRuntime>(&rt);
     answers::<16, HostRuntime>(&rt);
-    Ok(())
-}
-
-fn crosses_threads<T: Send + Sync>() {}
-
-#[test]
-fn words_are_kept_or_refused(rt: HostRuntime) -> Result<(), Fail> {
-    let alloc = rt.alloc();
-    let most = 1i64 << 50;
-    let kept = Pilot::from_words(10, 1, vec![in alloc; most]?);
-    assert_eq!(rt; kept.map(|p| (p.g(), p.size())), Some((10, 1)));
-    assert!(rt; Pilot::from_words(5, 1, vec![in alloc; most]?).is_none());
-    assert!(rt; Pilot::from_words(60, 1, vec![in alloc; most]?).is_none());
-    assert!(rt; Pilot::from_words(10, 2, vec![in alloc; most]?).is_none());
-    assert!(rt; Pilot::from_words(10, 1, vec![in alloc; most + 1]?).is_none());
-    crosses_threads::<Pilot>();
     crosses_threads::<PilotError>();
     Ok(())
 }

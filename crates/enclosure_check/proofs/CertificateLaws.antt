@@ -5,12 +5,13 @@ use Rattle.whole_numbers.specs.Quotients.{up_over}
 use Rattle.whole_numbers.specs.Intervals.{Holds}
 use Rattle.sys_model.specs.Systems.{Table, Encloses, around, rho, radius}
 use Rattle.sys_model.proofs.Exist.{encloses}
-use Rattle.chol_guess.specs.Pilots.{PilotTable, pilot_word}
+use Rattle.enclosures.specs.Pilots.{PilotTable, pilot_word}
 use Rattle.enclosure_check.specs.declared.CheckError.{CheckError}
 use Rattle.enclosure_check.specs.declared.CheckError.TheVariants.{Residual, Defect, Memory}
-use Rattle.enclosure_check.specs.declared.Radius.{Radius}
+use Rattle.enclosures.specs.declared.Radius.{Radius}
 use Rattle.enclosure_check.specs.Answers.{IsCheckRefused}
-use Rattle.enclosure_check.specs.CertificateLists.{NonePast, greatest_of, IsFirstGreatest, HasRadii, IsWhole, IsDefectRefused}
+use Rattle.enclosure_check.specs.CertificateLists.{greatest_of, IsFirstGreatest, HasRadii, IsWhole, IsDefectRefused}
+use Rattle.whole_numbers.specs.Lists.{NonePast}
 use Rattle.enclosure_check.specs.Certificates.{parts_of, error_of, IsCertified, IsDefect, AreErrors, AreDefects}
 use Rattle.whole_numbers.specs.Least.{greatest_to}
 

@@ -17,7 +17,7 @@ use Rattle.sym_blocks.specs.Tables.{SymTable, word}
 use Rattle.sym_blocks.proofs.Rows.{word_sym}
 use Rattle.equil.specs.Tables.{table_of}
 use Rattle.whole_numbers.specs.Lists.{at, AllAtMost}
-use Rattle.chol_guess.specs.Pilots.{PilotTable, pilot_word}
+use Rattle.enclosures.specs.Pilots.{PilotTable, pilot_word}
 use Rattle.enclosure_check.specs.Certificates.{parts_of}
 use Rattle.enclosure_check.specs.Defects.{word_between, products_to, clipped_left, turned_table, AreRows, HasWords}
 use Rattle.enclosure_check.proofs.ErrorLaws.{step_fits}

@@ -10,7 +10,7 @@ use Rattle.whole_numbers.proofs.IntervalLaws.{sum_intervals_same}
 use Rattle.sym_blocks.specs.Tables.{SymTable, word}
 use Rattle.whole_numbers.specs.Lists.{at}
 use Rattle.sys_model.specs.Systems.{Table, residual_interval}
-use Rattle.chol_guess.specs.Pilots.{PilotTable, pilot_word}
+use Rattle.enclosures.specs.Pilots.{PilotTable, pilot_word}
 use Rattle.enclosure_check.specs.Certificates.{AreErrors, LeftFitsAfter}
 use Rattle.enclosure_check.specs.ErrorParts.{IsVector, IsRowByWords, AreLeft, AreShifted, AreShiftedLeft, AreShiftedErrors, FitAfter, taken_interval, part_interval, shifted_error, word_at}
 use Rattle.stated_order.specs.First.{IsLeast}

@@ -12,13 +12,14 @@ use Rattle.whole_numbers.proofs.IntervalLaws.{two_pow_above}
 use Rattle.sym_blocks.specs.Tables.{SymTable, word}
 use Rattle.sys_model.specs.Systems.{Table}
 use Rattle.whole_numbers.specs.Lists.{at}
-use Rattle.chol_guess.specs.Pilots.{PilotTable, pilot_word}
+use Rattle.enclosures.specs.Pilots.{PilotTable, pilot_word}
 use Rattle.enclosure_check.specs.Answers.{IsVectorRefused}
 use Rattle.enclosure_check.specs.ErrorParts.{IsVector}
 use Rattle.enclosure_check.specs.VectorParts.{taken_midpoint, part_number, change_at, moved_at, AreMiddlesLeft, AreFloors, IsRowByNumbers, AreShiftedNumbers, AreSmallNumbers, IsPassed, IsTurned, IsTurnRefused}
 use Rattle.enclosure_check.specs.declared.VectorError.{VectorError}
 use Rattle.enclosure_check.specs.declared.VectorError.TheVariants.{Range, Memory}
-use Rattle.enclosure_check.specs.Vectors.{IsSmall, IsTurn, AfterTurns, IsStartVector, AllFitAfter, midpoint_residual, moved}
+use Rattle.enclosure_check.specs.Vectors.{IsTurn, AfterTurns, IsStartVector, AllFitAfter, midpoint_residual, moved}
+use Rattle.enclosures.specs.Vectors.{IsSmall}
 use Rattle.enclosure_check.proofs.ErrorLaws.{AreSmallIntervals, least_same}
 use Rattle.stated_order.specs.First.{IsLeast}
 

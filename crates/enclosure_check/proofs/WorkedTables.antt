@@ -5,7 +5,7 @@ use Rattle.std.proofs.Math.Nat.{mul-le-mul_left, mul-le-mul_right, pow-le-pow_ri
 use Rattle.whole_numbers.specs.Intervals.{point_interval}
 use Rattle.whole_numbers.proofs.IntervalLaws.{two_pow_above}
 use Rattle.sys_model.specs.Systems.{Table, radius}
-use Rattle.chol_guess.specs.Pilots.{PilotTable, pilot_word}
+use Rattle.enclosures.specs.Pilots.{PilotTable, pilot_word}
 use Rattle.enclosure_check.specs.Certificates.{LeftFitsAfter, parts_of, error_of}
 use Rattle.stated_order.specs.First.{IsLeast}
 

@@ -2,11 +2,12 @@
 use Rattle.std.specs.Prelude.{ℕ, ℤ, ⊤}
 use Rattle.sys_model.specs.Systems.{Table}
 use Rattle.chol_factor.specs.Factor.{IsPivot}
-use Rattle.chol_guess.specs.Pilots.{PilotTable, IsPilot, IsCondition}
+use Rattle.chol_guess.specs.Pilots.{IsPilot, IsCondition}
+use Rattle.enclosures.specs.Pilots.{PilotTable}
 use Rattle.enclosure_check.specs.Vectors.{IsStartVector, IsVectorRange}
 use Rattle.whole_numbers.specs.Lists.{at}
 use Rattle.enclosure_check.specs.Certificates.{IsCertified, IsResidual, IsDefect}
-use Rattle.enclosure_check.specs.declared.Enclosed.{Enclosed}
+use Rattle.enclosures.specs.declared.Enclosed.{Enclosed}
 use Rattle.enclosure_check.specs.declared.VectorError.{VectorError}
 use Rattle.enclosure_check.specs.declared.VectorError.TheVariants as vector
 use Rattle.enclosure_check.specs.declared.CheckError.{CheckError}

@@ -2,14 +2,10 @@
 use Rattle.std.specs.Prelude.{◌≡◌, ◌≤◌, ◌<◌, ◌+◌, ◌*◌, ◌^◌, ℕ, ⊤, List, length, slice_index, slice_index_or}
 use Rattle.whole_numbers.specs.Quotients.{up_over}
 use Rattle.sys_model.specs.Systems.{rho}
-use Rattle.enclosure_check.specs.declared.Radius.{Radius}
+use Rattle.enclosures.specs.declared.Radius.{Radius}
 use Rattle.enclosure_check.specs.declared.CheckError.{CheckError}
 use Rattle.enclosure_check.specs.declared.CheckError.TheVariants.{Residual, Defect, Memory}
 use Rattle.whole_numbers.specs.Least.{greatest_to}
-
--- no number of the list passes a
-abbrev pub NonePast : ℕ → List ℕ → Type 0
-NonePast a xs = (k : ℕ) → k < length xs → slice_index xs k ≤ a
 
 -- the greatest number of the list, and 0 where there is none
 abbrev pub greatest_of : List ℕ → ℕ

@@ -3,8 +3,8 @@
 use Rattle.std.specs.Prelude.{◌≡◌, ◌≤◌, ◌<◌, ◌^◌, ℕ, ℤ, List, length, slice_index_or}
 use Rattle.sys_model.specs.Systems.{Table, residual_interval, row_parts, row_error, radius}
 use Rattle.whole_numbers.specs.Intervals.{size, interval_shift}
-use Rattle.chol_guess.specs.Pilots.{PilotTable, pilot_word}
-use Rattle.enclosure_check.specs.declared.Radius.{Radius}
+use Rattle.enclosures.specs.Pilots.{PilotTable, pilot_word}
+use Rattle.enclosures.specs.declared.Radius.{Radius}
 use Rattle.stated_order.specs.First.{IsLeast}
 use Rattle.whole_numbers.specs.Least.{greatest_to}
 

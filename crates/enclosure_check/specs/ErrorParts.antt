@@ -5,8 +5,8 @@ use Rattle.whole_numbers.specs.Intervals.{Interval, interval_scale, interval_shi
 use Rattle.sym_blocks.specs.Tables.{SymTable, word, zero_interval}
 use Rattle.sys_model.specs.Systems.{Table, residual_interval}
 use Rattle.whole_numbers.specs.Lists.{at, AllAtMost}
-use Rattle.chol_guess.specs.Pilots.{PilotTable, pilot_word}
-use Rattle.enclosure_check.specs.Vectors.{IsSmall}
+use Rattle.enclosures.specs.Pilots.{PilotTable, pilot_word}
+use Rattle.enclosures.specs.Vectors.{IsSmall}
 
 -- the word at k of a list
 abbrev pub word_at : List Interval → ℕ → Interval

@@ -5,9 +5,10 @@ use Rattle.whole_numbers.specs.Sum.{sum_to}
 use Rattle.sym_blocks.specs.Tables.{SymTable, word}
 use Rattle.sys_model.specs.Systems.{Table}
 use Rattle.whole_numbers.specs.Lists.{at, AllAtMost}
-use Rattle.chol_guess.specs.Pilots.{PilotTable, pilot_word}
+use Rattle.enclosures.specs.Pilots.{PilotTable, pilot_word}
 use Rattle.enclosure_check.specs.ErrorParts.{IsVector}
-use Rattle.enclosure_check.specs.Vectors.{IsSmall, IsTurn, midpoint_residual}
+use Rattle.enclosure_check.specs.Vectors.{IsTurn, midpoint_residual}
+use Rattle.enclosures.specs.Vectors.{IsSmall}
 use Rattle.enclosure_check.specs.declared.VectorError.{VectorError}
 use Rattle.enclosure_check.specs.declared.VectorError.TheVariants.{Range, Memory}
 use Rattle.whole_numbers.specs.Intervals.{midpoint}

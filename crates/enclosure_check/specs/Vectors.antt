@@ -1,10 +1,11 @@
 -- The start vector: three turns from 0, each by what the pilot makes of what is left of the right side.
 -- Its rules are this program's own; no law rests on how near to a solution it comes.
 use Rattle.std.specs.Prelude.{◌≡◌, ◌≤◌, ◌<◌, ◌+◌, ◌-◌, ◌^◌, ℕ, zero, suc, ℤ, pos, ◌+ℤ◌, ◌-ℤ◌, ◌*ℤ◌, unsigned_abs}
-use Rattle.whole_numbers.specs.Sum.{sum_to, total_to}
+use Rattle.whole_numbers.specs.Sum.{sum_to}
+use Rattle.enclosures.specs.Vectors.{IsSmall}
 use Rattle.whole_numbers.specs.Quotients.{floor_over}
 use Rattle.sys_model.specs.Systems.{Table}
-use Rattle.chol_guess.specs.Pilots.{PilotTable, pilot_word}
+use Rattle.enclosures.specs.Pilots.{PilotTable, pilot_word}
 use Rattle.whole_numbers.specs.Intervals.{midpoint}
 use Rattle.stated_order.specs.First.{IsLeast}
 
@@ -25,10 +26,6 @@ pub record IsTurn (n : ℕ) (t : Table) (p : PilotTable) (y z : ℕ → ℤ) : T
   pub h : ℕ
   pub shift : IsLeast (AllFitAfter n (midpoint_residual n t y)) h
   pub rows : (i : ℕ) → i < n → z i ≡ moved n p (midpoint_residual n t y) h y i
-
--- the sizes of the first n numbers add up to at most 2^64
-abbrev pub IsSmall : ℕ → (ℕ → ℤ) → Type 0
-IsSmall n y = total_to n (λ i. unsigned_abs (y i)) ≤ 2 ^ 64
 
 -- this many turns lead from 0 to z, and each began with a small vector
 abbrev pub AfterTurns : ℕ → Table → PilotTable → ℕ → (ℕ → ℤ) → Type 0

@@ -1,20 +1,21 @@
 //! The certificate.
 
-ghost use Rattle.std.specs.Prelude.{◌≡◌, ◌≤◌, ◌<◌, ◌^◌, ℕ, length, slice_index, slice_index_or, IfOk, IfErr, IfSome, IfNone};
+ghost use Rattle.std.specs.Prelude.{◌≡◌, ◌≤◌, ◌<◌, ◌^◌, ℕ, length, slice_index, IfOk, IfErr, IfSome, IfNone};
 ghost use Rattle.std.specs.Vec.{vec_len};
 ghost use Rattle.sys_model.specs.Systems.{Encloses, rho};
-ghost use Rattle.whole_numbers.specs.Lists.{at};
+ghost use Rattle.whole_numbers.specs.Lists.{at, NonePast};
+ghost use Rattle.enclosures.specs.Radii.{radius_at};
 ghost use Rattle.equil.specs.Tables.{table_of};
 ghost use Rattle.enclosure_check.specs.Answers.{IsCheckRefused};
-ghost use Rattle.enclosure_check.specs.CertificateLists.{NonePast, greatest_of, IsFirstPast, IsFirstGreatest, radius_from, HasRadii, IsDefectRefused};
+ghost use Rattle.enclosure_check.specs.CertificateLists.{greatest_of, IsFirstPast, IsFirstGreatest, radius_from, HasRadii, IsDefectRefused};
 ghost use Rattle.enclosure_check.specs.Certificates.{IsCertified};
-ghost use Rattle.enclosure_check.specs.Vectors.{IsSmall};
+ghost use Rattle.enclosures.specs.Vectors.{IsSmall};
 ghost use Rattle.enclosure_check.specs.declared.CheckError.TheVariants.{Memory};
 
+use crate::CheckError;
 use crate::defects::row_defects;
 use crate::errors::row_errors;
-use crate::{CheckError, Radius};
-use chol_guess::Pilot;
+use enclosures::{Pilot, Radius};
 use equil::Working;
 use std::alloc::{AllocError, Global};
 use std::thread::Threads;
@@ -113,7 +114,6 @@ fn certificate_of(alloc: Global, errors: &[u128], defects: &[u64]) -> Result<Rad
     requires same { length errors.now ≡ length defects.now }
     requires small { NonePast (2 ^ 66) errors.now }
     ensures radii { IfOk result (HasRadii errors.now defects.now) }
-    ensures bounded { IfOk result (λ v. NonePast (2 ^ 97) v.w.items) }
     ensures refused { IfErr result (IsDefectRefused defects.now) }
 {
     let (row, b) = first_greatest(defects);
@@ -145,8 +145,7 @@ pub fn check<R: Threads + Sync, const N: usize>(
     requires some_workers { 1 ≤ workers }
     requires few_workers { workers ≤ 16 }
     ensures certified { IfOk result (IsCertified w.now.a.size (table_of w.now.a w.now.d.items) p.now (at y.now)) }
-    ensures encloses { IfOk result (λ v. Encloses w.now.a.size (table_of w.now.a w.now.d.items) (at y.now) (λ i. slice_index_or v.w.items i 0)) }
-    ensures bounded { IfOk result (λ v. (i : ℕ) → i < w.now.a.size → slice_index_or v.w.items i 0 ≤ 2 ^ 97) }
+    ensures encloses { IfOk result (λ v. Encloses w.now.a.size (table_of w.now.a w.now.d.items) (at y.now) (radius_at v)) }
     ensures refused { IfErr result (IsCheckRefused w.now.a.size (table_of w.now.a w.now.d.items) p.now (at y.now)) }
 {
     let errors = row_errors(alloc, w, p, y)?;

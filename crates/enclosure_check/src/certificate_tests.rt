@@ -1,7 +1,7 @@
 //! Tests of the defects and of the certificate, by tables of one row that are worked out by hand.
 
 use crate::{CheckError, check, row_defect};
-use chol_guess::Pilot;
+use enclosures::Pilot;
 use equil::Working;
 use interval_word::Iv;
 use std::alloc::{AllocError, Global};

@@ -12,7 +12,7 @@ ghost use Rattle.equil.specs.Tables.{table_of};
 ghost use Rattle.enclosure_check.specs.Certificates.{AreDefects, parts_of};
 ghost use Rattle.enclosure_check.specs.Defects.{end_product, word_between, products_to, clipped_left, turned_table, AreRows, HasWords};
 
-use chol_guess::Pilot;
+use enclosures::Pilot;
 use equil::Working;
 use std::alloc::{AllocError, Global};
 use std::marker::Model;

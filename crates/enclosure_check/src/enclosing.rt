@@ -1,17 +1,17 @@
 //! Pilot, start vector and certificate, one after the other.
 
-ghost use Rattle.std.specs.Prelude.{◌≡◌, ◌≤◌, ◌<◌, ◌^◌, ℕ, slice_index_or, IfOk, IfErr};
-ghost use Rattle.std.specs.Vec.{vec_len};
+ghost use Rattle.std.specs.Prelude.{◌≡◌, ◌≤◌, IfOk, IfErr};
 ghost use Rattle.sys_model.specs.Systems.{Encloses};
 ghost use Rattle.chol_factor.specs.Factor.{midpoints};
 ghost use Rattle.whole_numbers.specs.Lists.{at};
+ghost use Rattle.enclosures.specs.Radii.{radius_at};
 ghost use Rattle.equil.specs.Tables.{table_of};
 ghost use Rattle.enclosure_check.specs.Answers.{IsEnclosed, IsEncloseRefused};
 ghost use Rattle.enclosure_check.specs.EnclosureErrors.{of_pilot, of_vector, of_check};
-ghost use Rattle.enclosure_check.specs.Vectors.{IsSmall};
 
-use crate::{CheckError, EncloseError, Enclosed, VectorError, check, start_vector};
+use crate::{CheckError, EncloseError, VectorError, check, start_vector};
 use chol_guess::{PilotError, pilot};
+use enclosures::Enclosed;
 use equil::Working;
 use std::alloc::Global;
 use std::thread::Threads;
@@ -61,11 +61,8 @@ pub fn enclose<R: Threads + Sync, const N: usize>(
 ) -> Result<Enclosed, EncloseError>
     requires some_workers { 1 ≤ workers }
     requires few_workers { workers ≤ 16 }
-    ensures len { IfOk result (λ e. vec_len e.y ≡ w.now.a.size) }
     ensures enclosed { IfOk result (IsEnclosed w.now.a.size (table_of w.now.a w.now.d.items) (midpoints w.now.a)) }
-    ensures encloses { IfOk result (λ e. Encloses w.now.a.size (table_of w.now.a w.now.d.items) (at e.y.items) (λ i. slice_index_or e.radius.w.items i 0)) }
-    ensures small { IfOk result (λ e. IsSmall w.now.a.size (at e.y.items)) }
-    ensures bounded { IfOk result (λ e. (i : ℕ) → i < w.now.a.size → slice_index_or e.radius.w.items i 0 ≤ 2 ^ 97) }
+    ensures encloses { IfOk result (λ e. Encloses w.now.a.size (table_of w.now.a w.now.d.items) (at e.y.items) (radius_at e.radius)) }
     ensures refused { IfErr result (IsEncloseRefused w.now.a.size (table_of w.now.a w.now.d.items) (midpoints w.now.a)) }
 {
     let pilot = pilot(rt, alloc, w, workers)?;

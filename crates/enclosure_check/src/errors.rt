@@ -7,10 +7,10 @@ ghost use Rattle.whole_numbers.specs.Lists.{at};
 ghost use Rattle.equil.specs.Tables.{table_of};
 ghost use Rattle.enclosure_check.specs.Certificates.{AreErrors};
 ghost use Rattle.enclosure_check.specs.ErrorParts.{IsVector, taken_interval, AreLeft, FitAfter, AreShifted, IsRowByWords, part_interval, word_at, AreShiftedLeft, shifted_error, AreShiftedErrors};
-ghost use Rattle.enclosure_check.specs.Vectors.{IsSmall};
+ghost use Rattle.enclosures.specs.Vectors.{IsSmall};
 ghost use Rattle.stated_order.specs.First.{IsLeast};
 
-use chol_guess::Pilot;
+use enclosures::Pilot;
 use equil::Working;
 use interval_word::Iv;
 use std::alloc::{AllocError, Global};

@@ -2,7 +2,6 @@
 //! between which every solution of every system in the words lies (Rump 2010).
 #![tactic(auto)]
 
-use chol_guess::Pilot;
 use thiserror::Error;
 
 mod certificate;
@@ -20,6 +19,7 @@ mod vector_tests;
 pub use certificate::check;
 pub use defects::row_defect;
 pub use enclosing::enclose;
+pub use enclosures::{Enclosed, Pilot, Radius};
 pub use vector::start_vector;
 
 /// Why a working table has no start vector.
@@ -31,17 +31,6 @@ pub enum VectorError {
     /// Memory is wanting.
     #[error("out of memory")]
     Memory,
-}
-
-/// The numbers of a certificate that passes, in units of the working table.
-#[derive(Drop)]
-pub struct Radius {
-    /// The greatest defect of a row, in parts of 2^30.
-    pub b: u64,
-    /// The greatest error of a row.
-    pub m: u128,
-    /// How far a solution may be from the vector, row by row.
-    pub w: Vec<u128>,
 }
 
 /// Why a certificate does not pass.
@@ -56,17 +45,6 @@ pub enum CheckError {
     /// Memory is wanting.
     #[error("out of memory")]
     Memory,
-}
-
-/// A pilot, its start vector and their certificate.
-#[derive(Drop)]
-pub struct Enclosed {
-    /// The pilot.
-    pub pilot: Pilot,
-    /// The start vector, in units of the working table.
-    pub y: Vec<i128>,
-    /// The certificate at the start vector.
-    pub radius: Radius,
 }
 
 /// Why a working table has no enclosure.

@@ -14,7 +14,7 @@ ghost use Rattle.stated_order.specs.First.{IsLeast};
 
 use crate::VectorError;
 use crate::errors::word_at;
-use chol_guess::Pilot;
+use enclosures::Pilot;
 use equil::Working;
 use std::alloc::{AllocError, AllocFailed, Global};
 use whole_numbers::{product, shift_floor};

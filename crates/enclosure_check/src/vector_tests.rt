@@ -2,7 +2,7 @@
 
 use crate::errors::row_errors;
 use crate::{VectorError, start_vector};
-use chol_guess::Pilot;
+use enclosures::Pilot;
 use equil::working;
 use interval_word::Iv;
 use std::alloc::Global;

@@ -1,7 +1,6 @@
 -- What one more word, row or exponent keeps.
-use Rattle.std.proofs.Common.{◌≡◌, ◌≤◌, ◌<◌, ◌+◌, ◌∙◌, ◌++◌, ◌∷◌, [], ◌⊎◌, inl, inr, ℕ, ℤ, pos, List, Option, SomeIff, length, get_or, refl, sym, ap, subst, arith}
-use Rattle.std.proofs.Math.Decide.{dec_lt}
-use Rattle.std.proofs.lemmas.List.{get_or_push, get_or_append_left, length_push}
+use Rattle.std.proofs.Common.{◌≡◌, ◌≤◌, ◌<◌, ◌+◌, ◌∙◌, ◌++◌, ◌∷◌, [], ◌⊎◌, inl, inr, ℕ, ℤ, pos, List, Option, SomeIff, length, refl, sym, ap, subst, arith}
+use Rattle.std.proofs.lemmas.List.{length_push}
 use Rattle.whole_numbers.proofs.ListLaws.{each_push}
 use Rattle.whole_numbers.specs.Intervals.{Interval, size}
 use Rattle.whole_numbers.specs.Scaling.{interval_scale10}

@@ -10,21 +10,22 @@ use Rattle.equil.specs.declared.EquilError.{EquilError}
 use Rattle.equil.specs.declared.EquilError.TheVariants.{Range, Memory}
 use Rattle.equil.specs.Refusals.{IfRange}
 use Rattle.equil.specs.Rows.{AreScaled, IsRightScaled}
-use Rattle.equil.specs.Tables.{table_of, exponent_of, working_entry, working_right, AreExponents, IsFirstEntry, IsFirstRight, IsFirstPast, IsWorking}
+use Rattle.stated_order.specs.First.{IsFirstFailure, IsFirstLowerFailure}
+use Rattle.equil.specs.Tables.{EntryFits, RightFits, table_of, exponent_of, working_entry, working_right, AreExponents, IsFirstPast, IsWorking}
 
 range_weaker : (P Q : ℕ → ℕ → Type 0) → ((r c : ℕ) → P r c → Q r c) → (x : EquilError) → IfRange P x → IfRange Q x
 range_weaker P Q f (Range row col) h = f row col h
 range_weaker P Q f Memory h = h
 
-pub past_table : (t : SymTable) (ds : List Interval) (es fs : List ℤ) → fs ≡ es → AreExponents t.size (word t) (exponent_of es) → (x : EquilError) → IfRange (IsFirstEntry t.size (word t) (exponent_of fs)) x → IfRange (IsFirstPast t.size (table_of t ds)) x
+pub past_table : (t : SymTable) (ds : List Interval) (es fs : List ℤ) → fs ≡ es → AreExponents t.size (word t) (exponent_of es) → (x : EquilError) → IfRange (IsFirstLowerFailure t.size (EntryFits (word t) (exponent_of fs))) x → IfRange (IsFirstPast t.size (table_of t ds)) x
 past_table t ds es fs same are x h =
-    range_weaker (IsFirstEntry t.size (word t) (exponent_of es)) (IsFirstPast t.size (table_of t ds)) (λ r c p. record { e = exponent_of es; exponents = are; first = inl p }) x (subst (λ l. IfRange (IsFirstEntry t.size (word t) (exponent_of l)) x) same h)
+    range_weaker (IsFirstLowerFailure t.size (EntryFits (word t) (exponent_of es))) (IsFirstPast t.size (table_of t ds)) (λ r c p. record { e = exponent_of es; exponents = are; first = inl p }) x (subst (λ l. IfRange (IsFirstLowerFailure t.size (EntryFits (word t) (exponent_of l))) x) same h)
 
-pub past_right : (t a : SymTable) (ds : List Interval) (es fs gs : List ℤ) → fs ≡ es → gs ≡ es → length ds ≡ t.size → AreExponents t.size (word t) (exponent_of es) → AreScaled t.size a (word t) (exponent_of fs) → (x : EquilError) → IfRange (λ r c. (r ≡ c) × IsFirstRight (length ds) (λ k. slice_index_or ds k zero_interval) (exponent_of gs) r) x → IfRange (IsFirstPast t.size (table_of t ds)) x
+pub past_right : (t a : SymTable) (ds : List Interval) (es fs gs : List ℤ) → fs ≡ es → gs ≡ es → length ds ≡ t.size → AreExponents t.size (word t) (exponent_of es) → AreScaled t.size a (word t) (exponent_of fs) → (x : EquilError) → IfRange (λ r c. (r ≡ c) × IsFirstFailure (length ds) (RightFits (λ k. slice_index_or ds k zero_interval) (exponent_of gs)) r) x → IfRange (IsFirstPast t.size (table_of t ds)) x
 past_right t a ds es fs gs same other len are scaled x h =
     let s = subst (λ l. AreScaled t.size a (word t) (exponent_of l)) same scaled in
-    range_weaker (λ r c. (r ≡ c) × IsFirstRight t.size (λ k. slice_index_or ds k zero_interval) (exponent_of es) r) (IsFirstPast t.size (table_of t ds)) (λ r c p. record { e = exponent_of es; exponents = are; first = inr (p.0, s.fit, p.1) }) x
-    (subst (λ l. IfRange (λ r c. (r ≡ c) × IsFirstRight t.size (λ k. slice_index_or ds k zero_interval) (exponent_of l) r) x) other (subst (λ n. IfRange (λ r c. (r ≡ c) × IsFirstRight n (λ k. slice_index_or ds k zero_interval) (exponent_of gs) r) x) len h))
+    range_weaker (λ r c. (r ≡ c) × IsFirstFailure t.size (RightFits (λ k. slice_index_or ds k zero_interval) (exponent_of es)) r) (IsFirstPast t.size (table_of t ds)) (λ r c p. record { e = exponent_of es; exponents = are; first = inr (p.0, s.fit, p.1) }) x
+    (subst (λ l. IfRange (λ r c. (r ≡ c) × IsFirstFailure t.size (RightFits (λ k. slice_index_or ds k zero_interval) (exponent_of l)) r) x) other (subst (λ n. IfRange (λ r c. (r ≡ c) × IsFirstFailure n (RightFits (λ k. slice_index_or ds k zero_interval) (exponent_of gs)) r) x) len h))
 
 entry_sym : (t : SymTable) (e : ℕ → ℤ) (i j : ℕ) → working_entry (word t) e i j ≡ working_entry (word t) e j i
 entry_sym t e i j =

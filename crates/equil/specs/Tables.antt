@@ -1,5 +1,6 @@
 -- Working tables: a table and a right side scaled row by row and column by column.
 use Rattle.std.specs.Prelude.{◌≡◌, ◌≤◌, ◌<◌, ◌^◌, ◌⊎◌, ℕ, ℤ, pos, ◌-ℤ◌, neg_ℤ, List, slice_index_or}
+use Rattle.stated_order.specs.First.{HoldsLower, IsFirstFailure, IsFirstLowerFailure}
 use Rattle.whole_numbers.specs.Scaling.{interval_scale10}
 use Rattle.whole_numbers.specs.Intervals.{Interval, size}
 use Rattle.sym_blocks.specs.Tables.{SymTable, word, zero_interval}
@@ -39,30 +40,12 @@ EntryFits t e i j = size (working_entry t e i j) ≤ 2 ^ 61
 abbrev pub RightFits : (ℕ → Interval) → (ℕ → ℤ) → ℕ → Type 0
 RightFits d e i = size (working_right d e i) ≤ 10 ^ 37
 
--- the first word of row i past its bound is that of column j
-pub record IsFirstInRow (t : ℕ → ℕ → Interval) (e : ℕ → ℤ) (i j : ℕ) : Type 0 where
-  pub lower : j ≤ i
-  pub past : ¬ (EntryFits t e i j)
-  pub left : (k : ℕ) → k < j → EntryFits t e i k
-
--- the first word of the table past its bound, row by row up to the diagonal, is (row, col)
-pub record IsFirstEntry (n : ℕ) (t : ℕ → ℕ → Interval) (e : ℕ → ℤ) (row col : ℕ) : Type 0 where
-  pub within : row < n
-  pub before : (i j : ℕ) → i < row → j ≤ i → EntryFits t e i j
-  pub here : IsFirstInRow t e row col
-
--- the first word of the right side past its bound is that of row
-pub record IsFirstRight (n : ℕ) (d : ℕ → Interval) (e : ℕ → ℤ) (row : ℕ) : Type 0 where
-  pub within : row < n
-  pub past : ¬ (RightFits d e row)
-  pub before : (i : ℕ) → i < row → RightFits d e i
-
 -- each word of the table is in its bound
 abbrev pub EntriesFit : ℕ → (ℕ → ℕ → Interval) → (ℕ → ℤ) → Type 0
-EntriesFit n t e = (i j : ℕ) → i < n → j ≤ i → EntryFits t e i j
+EntriesFit n t e = HoldsLower n (EntryFits t e)
 
 -- the first word past its bound is at (row, col): the table comes first, and then the right side, with row and col equal
 pub record IsFirstPast (n : ℕ) (t : Table) (row col : ℕ) : Type 0 where
   pub e : ℕ → ℤ
   pub exponents : AreExponents n t.entry e
-  pub first : IsFirstEntry n t.entry e row col ⊎ ((row ≡ col) × EntriesFit n t.entry e × IsFirstRight n t.right e row)
+  pub first : IsFirstLowerFailure n (EntryFits t.entry e) row col ⊎ ((row ≡ col) × EntriesFit n t.entry e × IsFirstFailure n (RightFits t.right e) row)

@@ -2,11 +2,12 @@
 
 ghost use Rattle.std.specs.Prelude.{◌≡◌, ◌≤◌, ◌<◌, ◌+◌, ◌*◌, ◌^◌, ℕ, ℤ, pos, negsuc, ◌-ℤ◌, neg_ℤ, ◌≤ℤ◌, List, length, slice_index_or, SomeIff, IfOk, IfErr, IfSome, IfNone};
 ghost use Rattle.std.specs.Vec.{vec_len};
-ghost use Rattle.sym_blocks.specs.Tables.{SymTable, word, zero_interval};
+ghost use Rattle.sym_blocks.specs.Tables.{SymTable, before, word, zero_interval};
 ghost use Rattle.equil.specs.Exponents.{IsExponent, IsInRange};
 ghost use Rattle.equil.specs.Refusals.{IfRange};
 ghost use Rattle.equil.specs.Rows.{AllInRange, AreScaled, IsRowScaled, IsRightScaled, KeepsRows};
-ghost use Rattle.equil.specs.Tables.{exponent_of, working_entry, working_right, EntryFits, RightFits, AreExponents, IsFirstInRow, IsFirstEntry, IsFirstRight};
+ghost use Rattle.stated_order.specs.First.{IsFirstFailure, IsFirstLowerFailure};
+ghost use Rattle.equil.specs.Tables.{exponent_of, working_entry, working_right, EntryFits, RightFits, AreExponents};
 
 use crate::EquilError;
 use crate::powers::exponent;
@@ -93,7 +94,8 @@ fn scale_row<const N: usize>(
     ensures size { a.new.size ≡ a.old.size }
     ensures kept { KeepsRows i a.old a.new }
     ensures whole { IfNone result (IsRowScaled i (i + 1) a.new (word table.now) (exponent_of e.now)) }
-    ensures past { IfSome result (IsFirstInRow (word table.now) (exponent_of e.now) i) }
+    ensures list { length a.old.words ≡ before a.old.size → length a.new.words ≡ before a.new.size }
+    ensures past { IfSome result (IsFirstFailure (i + 1) (EntryFits (word table.now) (exponent_of e.now) i)) }
 {
     for j in 0..i + 1 {
         match entry_scaled(table, e, i, j) {
@@ -113,8 +115,9 @@ pub fn scaled_table<const N: usize>(
     requires len { length e.now ≡ table.now.size }
     requires range { AllInRange e.now }
     ensures size { IfOk result (λ a. a.size ≡ table.now.size) }
+    ensures list { IfOk result (λ a. length a.words ≡ before a.size) }
     ensures scaled { IfOk result (λ a. AreScaled table.now.size a (word table.now) (exponent_of e.now)) }
-    ensures past { IfErr result (IfRange (IsFirstEntry table.now.size (word table.now) (exponent_of e.now))) }
+    ensures past { IfErr result (IfRange (IsFirstLowerFailure table.now.size (EntryFits (word table.now) (exponent_of e.now)))) }
 {
     let size = table.size();
     let mut a = match SymBlock::zero(alloc, size) {
@@ -145,7 +148,7 @@ pub fn scaled_right(alloc: Global, right: &[Iv], e: &[i32]) -> Result<Vec<Iv>, E
     requires range { AllInRange e.now }
     ensures len { IfOk result (λ d. vec_len d ≡ length right.now) }
     ensures scaled { IfOk result (λ d. IsRightScaled (length right.now) d.items (λ k. slice_index_or right.now k zero_interval) (exponent_of e.now)) }
-    ensures past { IfErr result (IfRange (λ row col. (row ≡ col) × IsFirstRight (length right.now) (λ k. slice_index_or right.now k zero_interval) (exponent_of e.now) row)) }
+    ensures past { IfErr result (IfRange (λ row col. (row ≡ col) × IsFirstFailure (length right.now) (RightFits (λ k. slice_index_or right.now k zero_interval) (exponent_of e.now)) row)) }
 {
     let mut d = Vec::new(alloc);
     for row in 0..right.len() {

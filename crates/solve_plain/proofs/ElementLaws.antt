@@ -11,7 +11,7 @@ use Rattle.equil.proofs.RowLaws.{IsSet}
 use Rattle.plain_rows.specs.Plain.{PlainFile, IsPairBefore}
 use Rattle.plain_rows.specs.declared.Element.{Element}
 use Rattle.solve_plain.specs.Files.{element_of, zero_decimal, IsLower, IsSound, EntryIsModest}
-use Rattle.solve_plain.specs.Solving.{IsFirstEntryPast}
+use Rattle.stated_order.specs.First.{IsFirstLowerFailure}
 use Rattle.solve_plain.specs.Words.{IsModest, HasEntries, with_first}
 use Rattle.stated_order.specs.Lists.{Ascends}
 
@@ -141,13 +141,13 @@ module _ (p : PlainFile) (k : ℕ) (e : Element) (sound : IsSound p) (within : k
   earlier : (a : SymTable) → HasEntries (with_first k p) a → (i j : ℕ) → ComesBefore (max i j) (min i j) e → EntryIsModest p i j
   earlier a done i j before = subst IsModest (sym (given_before p.elements k e e (max i j) (min i j) sound.ascends within is before)) (done.modest i j)
 
-  pub table_past : (a : SymTable) → ¬ (IsModest e.value) → HasEntries (with_first k p) a → IsFirstEntryPast p e.row e.col
+  pub table_past : (a : SymTable) → ¬ (IsModest e.value) → HasEntries (with_first k p) a → IsFirstLowerFailure (length p.rows) (EntryIsModest p) e.row e.col
   table_past a past done = record {
     within = lower.row;
     lower = lower.col;
     rows = λ i j l m. earlier a done i j (inl (omega arith));
     left = λ j l. earlier a done e.row j (let low = lower.col in inr (omega arith, omega arith));
-    past = λ modest.
+    fails = λ modest.
         let low = lower.col in
         let great : max e.row e.col ≡ e.row = omega arith in
         let less : min e.row e.col ≡ e.col = omega arith in
@@ -158,3 +158,10 @@ module _ (p : PlainFile) (k : ℕ) (e : Element) (sound : IsSound p) (within : k
 -- the table of all elements
 pub table_whole : (p : PlainFile) (k : ℕ) (a : SymTable) → length p.elements ≤ k → HasEntries (with_first k p) a → HasEntries p a
 table_whole p k a all done = subst (λ es. HasEntries (record { rows = p.rows; elements = es }) a) (take_all k p.elements all) done
+
+-- no element stands past the rows
+pub none_past : (es : List Element) (n i j : ℕ) → All (IsLower n) es → n ≤ i → element_of es i j ≡ zero_decimal
+none_past [] n i j h past = refl
+none_past (e ∷ es) n i j h past =
+    let within = All-head (IsLower n) e es h in
+    behind_front e es i j (λ at. let row = within.row in let same = at.0 in omega arith) ∙ none_past es n i j (All-tail (IsLower n) e es h) past

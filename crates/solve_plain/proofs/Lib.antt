@@ -1,11 +1,8 @@
 pub mod Alone
-pub mod AloneFirsts
-pub mod AloneStages
-pub mod AloneSteps
-pub mod AloneWorking
+pub mod Answering
 pub mod ElementLaws
+pub mod ExactSystems
 pub mod LawExact
 pub mod RowLaws
-pub mod SolvingLaws
-pub mod StackLaws
 pub mod Sound
+pub mod StackLaws

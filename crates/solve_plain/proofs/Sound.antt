@@ -1,6 +1,5 @@
 -- A file in the plain form is sound.
-use Rattle.std.proofs.Common.{◌≡◌, ◌<◌, ◌-◌, ◌^◌, ◌∷◌, ℕ, zero, suc, List, [], length, Bool, if◌then◌else◌, subst, sym, ap, ◌∙◌, arith}
-use Rattle.std.proofs.Math.Dec.{eqb-suc-zero}
+use Rattle.std.proofs.Common.{◌<◌, ◌^◌, ◌∷◌, ℕ, zero, suc, List, [], length, arith}
 use Rattle.std.proofs.lemmas.List.Elements.{All-nil, All-cons}
 use Rattle.std.specs.List.{All}
 use Rattle.decimal_e.specs.Fractions.{IsAtMost}
@@ -10,19 +9,12 @@ use Rattle.plain_rows.specs.declared.Element.{Element}
 use Rattle.solve_plain.specs.Files.{IsSound, IsLower, apriori_of}
 use Rattle.stated_order.specs.Lists.{AreEach}
 
-apriori_of-next : (row : Row) (rows : List Row) (i : ℕ) → apriori_of (row ∷ rows) (suc i) ≡ apriori_of rows i
-apriori_of-next row rows i =
-    let at : suc i - 1 ≡ i = omega arith in
-    ap (λ (b : Bool). if b then row.apriori else apriori_of rows (suc i - 1)) (eqb-suc-zero i) ∙ ap (apriori_of rows) at
-
 modest_rows : (texts : List RowText) (rows : List Row) → AreEach IsRowOf texts rows → (i : ℕ) → i < length rows → IsAtMost (10 ^ 12) (apriori_of rows i)
 modest_rows [] [] h i below = absurd (omega arith)
 modest_rows [] (row ∷ rows) h i below = absurd h
 modest_rows (text ∷ texts) [] h i below = absurd h
 modest_rows (text ∷ texts) (row ∷ rows) h zero below = (h.0).modest
-modest_rows (text ∷ texts) (row ∷ rows) h (suc i) below =
-    let rest : i < length rows = omega arith in
-    subst (IsAtMost (10 ^ 12)) (sym (apriori_of-next row rows i)) (modest_rows texts rows h.1 i rest)
+modest_rows (text ∷ texts) (row ∷ rows) h (suc i) below = modest_rows texts rows h.1 i (omega arith)
 
 lower_element : (n : ℕ) (text : ElementText) (e : Element) → IsElementOf n text e → IsLower n e
 lower_element n text e h = record { row = omega arith; col = omega arith }

@@ -1,118 +1,87 @@
--- A file's table and list of words, the working table of these, and the file's own.
-use Rattle.std.proofs.Common.{◌≡◌, ◌<◌, ◌≤◌, ◌^◌, inl, inr, ℕ, pos, ℤ, neg_ℤ, List, length, refl, sym, subst, arith}
-use Rattle.std.proofs.Math.IntN.{◌-ℤ◌}
-use Rattle.whole_numbers.specs.Intervals.{Interval, Holds, size}
-use Rattle.whole_numbers.specs.Scaling.{interval_scale10}
-use Rattle.sym_blocks.specs.Tables.{SymTable, word}
-use Rattle.sys_model.specs.Systems.{Table, System, LiesIn}
-use Rattle.equil.specs.declared.EquilError.{EquilError}
-use Rattle.equil.specs.declared.EquilError.TheVariants as equil
-use Rattle.equil.specs.Exponents.{IsExponent}
-use Rattle.equil.specs.Refusals.{IfRange}
-use Rattle.equil.specs.Scaled.{CarriesSystems}
-use Rattle.equil.specs.Tables.{table_of, AreExponents, IsWorking, EntryFits, RightFits, IsFirstEntry, IsFirstRight, IsFirstPast}
+-- The stack in memory is the file's.
+use Rattle.std.proofs.Common.{◌≡◌, ◌<◌, ◌≤◌, ◌∙◌, ◌⊎◌, inl, inr, ℕ, ℤ, pos, max, min, List, length, get_or, map, replicate, refl, sym, ap, subst, arith}
+use Rattle.std.proofs.Math.Decide.{dec_lt}
+use Rattle.std.proofs.Math.Path.{fun_ext}
+use Rattle.std.proofs.lemmas.List.{get_or_past, get_or-replicate, length-map, length-replicate}
+use Rattle.std.proofs.lemmas.Int.{ints}
+use Rattle.whole_numbers.specs.Intervals.{Interval}
+use Rattle.whole_numbers.specs.Lists.{at}
+use Rattle.decimal_e.specs.Decimals.{Decimal}
+use Rattle.decimal_e.specs.Scales.{decimal_interval}
+use Rattle.sym_blocks.specs.Tables.{SymTable, word, place, lower_place, before, zero_interval}
+use Rattle.sym_blocks.proofs.Rows.{later_row}
+use Rattle.sys_model.specs.Systems.{Table}
+use Rattle.equil.specs.Tables.{table_of}
+use Rattle.bounds_report.specs.Printing.{decimal_at, IsScaleExponent, AreScaleExponents}
 use Rattle.plain_rows.specs.Plain.{PlainFile}
-use Rattle.solve_plain.specs.Files.{file_words, AreModest}
-use Rattle.solve_plain.specs.Refusals.{working_refusal}
-use Rattle.solve_plain.specs.Solving.{HasWorking, IsRefusedWith}
+use Rattle.stack_rules.specs.Stacks.{Stack, stack_of}
+use Rattle.solve_plain.specs.Files.{file_words, file_stack, file_scales, zero_decimal, vector_of, matrix_of, apriori_of, IsSound}
 use Rattle.solve_plain.specs.Words.{HasEntries, HasRights}
+use Rattle.solve_plain.proofs.ElementLaws.{none_past}
 
--- ---- what holds of the table holds of the file's words
-module _ (p : PlainFile) (t : SymTable) (ds : List Interval) (entries : HasEntries p t) (rights : HasRights p (length p.rows) ds) where
-  modest : AreModest p
-  modest = record { entries = λ i j _ _. entries.modest i j; rights = rights.modest }
+-- a row past the rows begins behind the whole list
+place_past : (n i j : ℕ) → n ≤ i → before n ≤ lower_place i j
+place_past n i j past =
+    elim (dec_lt n i) [
+      | yes l ↦ omega (arith, later_row n i l)
+      | no l ↦ let same : n ≡ i = omega arith in let b = ap before same in omega arith
+    ]
 
-  exponents_moved : (e : ℕ → ℤ) → AreExponents (length p.rows) (word t) e → AreExponents (length p.rows) (file_words p).entry e
-  exponents_moved e are i l = subst (λ w. IsExponent w.hi (e i)) (entries.words i i l l) (are i l)
+module _ (p : PlainFile) (sound : IsSound p) (t : SymTable) (ds : List Interval) (size : t.size ≡ length p.rows) (whole : length t.words ≡ before t.size) (entries : HasEntries p t)
+    (len : length ds ≡ length p.rows) (rights : HasRights p (length p.rows) ds) where
+  -- past the rows all intervals are zero
+  past_entry : (i j : ℕ) → length p.rows ≤ max i j → word t i j ≡ (file_words p).entry i j
+  past_entry i j past =
+      let behind = place_past (length p.rows) (max i j) (min i j) past in
+      let list : length t.words ≡ before (length p.rows) = whole ∙ ap before size in
+      get_or_past t.words (place i j) zero_interval (omega arith)
+      ∙ ap (λ d. decimal_interval d (pos 18)) (sym (none_past p.elements (length p.rows) (max i j) (min i j) sound.within past))
 
-  entry_moved : (e : ℕ → ℤ) (i j : ℕ) → i < length p.rows → j ≤ i → EntryFits (word t) e i j → EntryFits (file_words p).entry e i j
-  entry_moved e i j l m = subst (λ w. size (interval_scale10 w (neg_ℤ (e i) -ℤ e j)) ≤ 2 ^ 61) (entries.words i j l (omega arith))
+  each_entry : (i j : ℕ) → word t i j ≡ (file_words p).entry i j
+  each_entry i j =
+      elim (dec_lt (max i j) (length p.rows)) [
+        | yes l ↦ entries.words i j (omega arith) (omega arith)
+        | no l ↦ past_entry i j (omega arith)
+      ]
 
-  entry_back : (e : ℕ → ℤ) (i j : ℕ) → i < length p.rows → j ≤ i → EntryFits (file_words p).entry e i j → EntryFits (word t) e i j
-  entry_back e i j l m = subst (λ w. size (interval_scale10 w (neg_ℤ (e i) -ℤ e j)) ≤ 2 ^ 61) (sym (entries.words i j l (omega arith)))
+  past_right : (i : ℕ) → length p.rows ≤ i → get_or ds i zero_interval ≡ (file_words p).right i
+  past_right i past =
+      let vectors = length-map p.rows (λ row. row.vector) in
+      get_or_past ds i zero_interval (omega arith)
+      ∙ ap (λ d. decimal_interval d (pos 18)) (sym (get_or_past (map (λ row. row.vector) p.rows) i zero_decimal (omega arith)))
 
-  right_moved : (e : ℕ → ℤ) (i : ℕ) → i < length p.rows → RightFits (table_of t ds).right e i → RightFits (file_words p).right e i
-  right_moved e i l = subst (λ w. size (interval_scale10 w (pos 12 -ℤ e i)) ≤ 10 ^ 37) (rights.words i l)
+  each_right : (i : ℕ) → get_or ds i zero_interval ≡ (file_words p).right i
+  each_right i =
+      elim (dec_lt i (length p.rows)) [
+        | yes l ↦ rights.words i l
+        | no l ↦ past_right i (omega arith)
+      ]
 
-  right_back : (e : ℕ → ℤ) (i : ℕ) → i < length p.rows → RightFits (file_words p).right e i → RightFits (table_of t ds).right e i
-  right_back e i l = subst (λ w. size (interval_scale10 w (pos 12 -ℤ e i)) ≤ 10 ^ 37) (sym (rights.words i l))
+  pub table_is : table_of t ds ≡ file_words p
+  table_is =
+      ap (λ f. (let w : Table = record { entry = f; right = λ i. get_or ds i zero_interval } in w)) (fun_ext (λ i. fun_ext (λ j. each_entry i j)))
+      ∙ ap (λ f. (let w : Table = record { entry = (file_words p).entry; right = f } in w)) (fun_ext each_right)
 
-  first_moved : (e : ℕ → ℤ) (row col : ℕ) → IsFirstEntry (length p.rows) (word t) e row col → IsFirstEntry (length p.rows) (file_words p).entry e row col
-  first_moved e row col f =
-      let within = f.within in
-      let lower = f.here.lower in
-      record {
-        within = f.within;
-        before = λ i j l m. entry_moved e i j (omega arith) m (f.before i j l m);
-        here = record {
-          lower = f.here.lower;
-          past = λ fits. f.here.past (entry_back e row col within lower fits);
-          left = λ k l. entry_moved e row k within (omega arith) (f.here.left k l);
-        };
-      }
+-- the scale exponents are zeros
+each_zero : (n i : ℕ) → at (replicate n (pos 0)) i ≡ pos 0
+each_zero n i =
+    elim (dec_lt i n) [
+      | yes l ↦ get_or-replicate n i (pos 0) (pos 0) l
+      | no l ↦ get_or_past (replicate n (pos 0)) i (pos 0) (let len = length-replicate n (pos 0) in omega arith)
+    ]
 
-  first_right_moved : (e : ℕ → ℤ) (row : ℕ) → IsFirstRight (length p.rows) (table_of t ds).right e row → IsFirstRight (length p.rows) (file_words p).right e row
-  first_right_moved e row f =
-      let within = f.within in
-      record {
-        within = f.within;
-        past = λ fits. f.past (right_back e row within fits);
-        before = λ i l. right_moved e i (omega arith) (f.before i l);
-      }
+pub scales_are : (n : ℕ) (ts : List ℤ) → ts ≡ replicate n (pos 0) → at ts ≡ file_scales
+scales_are n ts are = ap at are ∙ fun_ext (each_zero n)
 
-  past_moved : (row col : ℕ) → IsFirstPast (length p.rows) (table_of t ds) row col → IsFirstPast (length p.rows) (file_words p) row col
-  past_moved row col f = record {
-    e = f.e;
-    exponents = exponents_moved f.e f.exponents;
-    first = elim f.first [
-      | inl h ↦ inl (first_moved f.e row col h)
-      | inr h ↦ inr (h.0, λ i j l m. entry_moved f.e i j l m (h.1 i j l m), first_right_moved f.e row h.2)
-    ];
-  }
+zero_in_range : IsScaleExponent (pos 0)
+zero_in_range = record { least = omega (arith, ints); most = omega (arith, ints) }
 
-  pub working_refused : (x : EquilError) → IfRange (IsFirstPast (length p.rows) (table_of t ds)) x → IsRefusedWith p (working_refusal x)
-  working_refused (equil.Range row col) h = inr (inl (modest, past_moved row col h))
-  working_refused equil.Memory h = inl refl
+pub scales_in_range : (n : ℕ) (ts : List ℤ) → ts ≡ replicate n (pos 0) → AreScaleExponents ts
+scales_in_range n ts are i l = subst IsScaleExponent (sym (ap (λ f. f i) (scales_are n ts are))) (zero_in_range)
 
-  working_moved : (w : Table) (e : ℕ → ℤ) → IsWorking (length p.rows) (table_of t ds) w e → IsWorking (length p.rows) (file_words p) w e
-  working_moved w e h = record {
-    exponents = exponents_moved e h.exponents;
-    entries = λ i j li lj. subst (λ v. w.entry i j ≡ interval_scale10 v (neg_ℤ (e i) -ℤ e j)) (entries.words i j li lj) (h.entries i j li lj);
-    rights = λ i l. subst (λ v. w.right i ≡ interval_scale10 v (pos 12 -ℤ e i)) (rights.words i l) (h.rights i l);
-  }
-
-  pub has_working : (w : Table) (e : ℕ → ℤ) → ((i j : ℕ) → i < length p.rows → j < length p.rows → size (w.entry i j) ≤ 2 ^ 61) → ((i : ℕ) → i < length p.rows → size (w.right i) ≤ 10 ^ 37)
-      → IsWorking (length p.rows) (table_of t ds) w e → HasWorking p w e
-  has_working w e words_small right_small h =
-      let moved = working_moved w e h in
-      record {
-        modest = modest;
-        working = moved;
-        entries_fit = λ i j l m. let lj : j < length p.rows = omega arith in subst (λ v. size v ≤ 2 ^ 61) (moved.entries i j l lj) (words_small i j l lj);
-        rights_fit = λ i l. subst (λ v. size v ≤ 10 ^ 37) (moved.rights i l) (right_small i l);
-      }
-
-  lies_moved : (S : System) → LiesIn (length p.rows) (file_words p) S → LiesIn (length p.rows) (table_of t ds) S
-  lies_moved S h = record {
-    some = h.some;
-    entries = λ i j li lj. subst (λ v. Holds v (S.a i j) S.q) (sym (entries.words i j li lj)) (h.entries i j li lj);
-    rights = λ i l. subst (λ v. Holds v (S.c i) S.q) (sym (rights.words i l)) (h.rights i l);
-  }
-
-  pub carries_moved : (w : Table) (e : ℕ → ℤ) → CarriesSystems (length p.rows) (table_of t ds) w e → CarriesSystems (length p.rows) (file_words p) w e
-  carries_moved w e h = record { lies = λ S l. h.lies S (lies_moved S l); solves = h.solves; solved = h.solved }
-
--- ---- the answer of `working`, in its own terms
-module _ (p : PlainFile) (t : SymTable) (rs ds : List Interval) (len : t.size ≡ length p.rows) (same : rs ≡ ds) (entries : HasEntries p t) (rights : HasRights p (length p.rows) ds) where
-  pub answer_refused : (x : EquilError) → IfRange (IsFirstPast t.size (table_of t rs)) x → IsRefusedWith p (working_refusal x)
-  answer_refused x h = working_refused p t ds entries rights x (subst (λ m. IfRange (IsFirstPast m (table_of t ds)) x) len (subst (λ l. IfRange (IsFirstPast t.size (table_of t l)) x) same h))
-
-  pub answer_working : (n : ℕ) (w : Table) (e : ℕ → ℤ) → n ≡ t.size → ((i j : ℕ) → i < n → j < n → size (w.entry i j) ≤ 2 ^ 61) → ((i : ℕ) → i < n → size (w.right i) ≤ 10 ^ 37)
-      → IsWorking t.size (table_of t rs) w e → HasWorking p w e
-  answer_working n w e is words_small right_small h = has_working p t ds entries rights w e
-      (λ i j li lj. words_small i j (omega arith) (omega arith)) (λ i l. right_small i (omega arith))
-      (subst (λ m. IsWorking m (table_of t ds) w e) len (subst (λ l. IsWorking t.size (table_of t l) w e) same h))
-
-  pub answer_carries : (w : Table) (e : ℕ → ℤ) → CarriesSystems t.size (table_of t rs) w e → CarriesSystems (length p.rows) (file_words p) w e
-  answer_carries w e h = carries_moved p t ds entries rights w e
-      (subst (λ m. CarriesSystems m (table_of t ds) w e) len (subst (λ l. CarriesSystems t.size (table_of t l) w e) same h))
+pub stack_is : (p : PlainFile) (t : SymTable) (ds : List Interval) (xs : List Decimal) (ts : List ℤ) → t.size ≡ length p.rows → table_of t ds ≡ file_words p → decimal_at xs ≡ apriori_of p.rows → at ts ≡ file_scales → stack_of t ds xs ts ≡ file_stack p
+stack_is p t ds xs ts size table apriori scales =
+    ap (λ n. (let s : Stack = record { rows = n; table = table_of t ds; apriori = decimal_at xs; scales = at ts } in s)) size
+    ∙ ap (λ w. (let s : Stack = record { rows = length p.rows; table = w; apriori = decimal_at xs; scales = at ts } in s)) table
+    ∙ ap (λ x. (let s : Stack = record { rows = length p.rows; table = file_words p; apriori = x; scales = at ts } in s)) apriori
+    ∙ ap (λ x. (let s : Stack = record { rows = length p.rows; table = file_words p; apriori = apriori_of p.rows; scales = x } in s)) scales

@@ -1,10 +1,13 @@
 -- The normal equations of a file in the plain form: their decimals, and their words at 10^18.
-use Rattle.std.specs.Prelude.{◌≤◌, ◌<◌, ◌^◌, ◌&&◌, ◌-◌, ℕ, pos, List, [], ◌∷◌, length, All, max, min, eqb, if◌then◌else◌}
+use Rattle.std.specs.Prelude.{◌≤◌, ◌<◌, ◌^◌, ◌&&◌, ℕ, ℤ, pos, List, [], ◌∷◌, length, All, map, max, min, eqb, if◌then◌else◌}
+use Rattle.stated_order.specs.First.{HoldsBelow, HoldsLower}
 use Rattle.decimal_e.specs.Decimals.{Decimal}
 use Rattle.decimal_e.specs.Fractions.{IsAtMost}
 use Rattle.decimal_e.specs.Scales.{decimal_interval}
 use Rattle.whole_numbers.specs.Intervals.{size}
 use Rattle.sys_model.specs.Systems.{Table}
+use Rattle.bounds_report.specs.Printing.{decimal_at}
+use Rattle.stack_rules.specs.Stacks.{Stack}
 use Rattle.plain_rows.specs.Plain.{PlainFile, IsPairBefore}
 use Rattle.plain_rows.specs.declared.Plain.{Plain}
 use Rattle.plain_rows.specs.declared.Row.{Row}
@@ -29,18 +32,24 @@ matrix_of p i j = element_of p.elements (max i j) (min i j)
 
 -- the element of the vector, and the a priori value
 abbrev pub vector_of : List Row → ℕ → Decimal
-vector_of [] i = zero_decimal
-vector_of (row ∷ rows) i = if eqb i 0 then row.vector else vector_of rows (i - 1)
+vector_of rows = decimal_at (map (λ row. row.vector) rows)
 
 abbrev pub apriori_of : List Row → ℕ → Decimal
-apriori_of [] i = zero_decimal
-apriori_of (row ∷ rows) i = if eqb i 0 then row.apriori else apriori_of rows (i - 1)
+apriori_of rows = decimal_at (map (λ row. row.apriori) rows)
 
--- the words at 10^18 of the matrix and of the vector
+-- the intervals at 10^18 of the matrix and of the vector
 abbrev pub file_words : PlainFile → Table
 file_words p = record { entry = λ i j. decimal_interval (matrix_of p i j) (pos 18); right = λ i. decimal_interval (vector_of p.rows i) (pos 18) }
 
--- a word of a file is at most 10^34 in size
+-- the scale exponents of its names
+abbrev pub file_scales : ℕ → ℤ
+file_scales i = pos 0
+
+-- the file's stack
+abbrev pub file_stack : PlainFile → Stack
+file_stack p = record { rows = length p.rows; table = file_words p; apriori = apriori_of p.rows; scales = file_scales }
+
+-- an interval of a file is at most 10^34 in size
 abbrev pub EntryIsModest : PlainFile → ℕ → ℕ → Type 0
 EntryIsModest p i j = size ((file_words p).entry i j) ≤ 10 ^ 34
 
@@ -49,8 +58,8 @@ RightIsModest p i = size ((file_words p).right i) ≤ 10 ^ 34
 
 -- so are all of them
 pub record AreModest (p : PlainFile) : Type 0 where
-  pub entries : (i j : ℕ) → i < length p.rows → j ≤ i → EntryIsModest p i j
-  pub rights : (i : ℕ) → i < length p.rows → RightIsModest p i
+  pub entries : HoldsLower (length p.rows) (EntryIsModest p)
+  pub rights : HoldsBelow (length p.rows) (RightIsModest p)
 
 -- the element stands at or below the diagonal of n rows
 pub record IsLower (n : ℕ) (e : Element) : Type 0 where

@@ -6,8 +6,10 @@ use Rattle.whole_numbers.specs.Intervals.{Interval, size}
 use Rattle.sym_blocks.specs.Tables.{SymTable, word, zero_interval}
 use Rattle.plain_rows.specs.Plain.{PlainFile}
 use Rattle.solve_plain.specs.Files.{file_words, EntryIsModest, RightIsModest}
+use Rattle.solve_plain.specs.declared.words.IntervalError.{IntervalError}
+use Rattle.solve_plain.specs.declared.words.IntervalError.TheVariants.{Past, Memory}
 use Rattle.solve_plain.specs.declared.SolveError.{SolveError}
-use Rattle.solve_plain.specs.declared.SolveError.TheVariants.{Words, Range, Pivot, Condition, Residual, Defect, Memory}
+use Rattle.solve_plain.specs.declared.SolveError.TheVariants as file
 
 -- the decimal's word at 10^18 is at most 10^34 in size
 abbrev pub IsModest : Decimal → Type 0
@@ -27,12 +29,12 @@ pub record HasRights (p : PlainFile) (n : ℕ) (ds : List Interval) : Type 0 whe
   pub words : (i : ℕ) → i < n → slice_index_or ds i zero_interval ≡ (file_words p).right i
   pub modest : (i : ℕ) → i < n → RightIsModest p i
 
--- what a refusal of a word says: P of the row and column that it names, and nothing where memory is wanting
-abbrev pub IfWords : (ℕ → ℕ → Type 0) → SolveError → Type 0
-IfWords P (Words row col) = P row col
-IfWords P (Range row col) = ⊥
-IfWords P (Pivot row) = ⊥
-IfWords P (Condition col) = ⊥
-IfWords P (Residual row error) = ⊥
-IfWords P (Defect row parts) = ⊥
-IfWords P Memory = ⊤
+-- a refusal of an interval, as one of the file
+abbrev pub of_interval : IntervalError → SolveError
+of_interval (Past row col) = file.Words row col
+of_interval Memory = file.Memory
+
+-- what a refusal of an interval says: P of the row and column that it names, and nothing where memory is wanting
+abbrev pub IfPast : (ℕ → ℕ → Type 0) → IntervalError → Type 0
+IfPast P (Past row col) = P row col
+IfPast P Memory = ⊤

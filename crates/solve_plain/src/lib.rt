@@ -1,36 +1,27 @@
-//! The rules from a file in the plain form to the numbers of its report: the words of its normal equations, their working
-//! table, the enclosure and the printed numbers, and what these promise of the file's exact system.
+//! From a file in the plain form to the numbers of its report: the stack of its normal equations, the rules of that, and what
+//! these promise of the file's exact system.
 #![tactic(auto)]
 
-use bounds_report::Printed;
 use thiserror::Error;
 
+mod making;
 mod refusals;
 mod solving;
+mod stacks;
 mod words;
 
-pub use solving::{file_working, solve};
-
-/// The numbers of a report.
-#[derive(Drop)]
-pub struct Solved {
-    /// The scale of the pilot: its unit is 2^-(g + 60).
-    pub g: u32,
-    /// The greatest defect of a row, in parts of 2^30.
-    pub parts: u64,
-    /// The greatest error of a row, in units of the working table.
-    pub error: u128,
-    /// The printed numbers, row by row.
-    pub rows: Vec<Printed>,
-}
+pub use making::file_stack;
+pub use solving::solve;
+pub use stack_rules::Solved;
+pub use stacks::FileStack;
 
 /// Why a file has no report. Rows and columns count from 0, in the order of the names.
 #[derive(Clone, Copy, Debug, PartialEq, Eq, Error)]
 pub enum SolveError {
-    /// The file's word at this row and column passes 10^34 in size. A word of the vector has them equal.
-    #[error("the file's word in row {row}, column {col} is too great")]
+    /// The file's interval at this row and column passes 10^34 in size. An interval of the vector has them equal.
+    #[error("the file's interval in row {row}, column {col} is too great")]
     Words { row: usize, col: usize },
-    /// The working word at this row and column passes its bound, or the start vector or the printed numbers of this row do.
+    /// The working interval at this row and column passes its bound, or the start vector or the printed numbers of this row do.
     #[error("row {row}, column {col} passes its bound")]
     Range { row: usize, col: usize },
     /// The table has no pilot: its factor ends before this column.

@@ -1,13 +1,13 @@
-//! The refusals of the steps, as refusals of a file.
+//! The refusals of a stack, and of a file's intervals, as refusals of the file.
 
 ghost use Rattle.std.specs.Prelude.{◌≡◌};
-ghost use Rattle.solve_plain.specs.Refusals.{working_refusal, enclosure_refusal, print_refusal};
+ghost use Rattle.solve_plain.specs.Refusals.{of_stack};
+ghost use Rattle.solve_plain.specs.Words.{of_interval};
 ghost use Rattle.solve_plain.specs.declared.SolveError.TheVariants.{Memory};
 
 use crate::SolveError;
-use bounds_report::PrintError;
-use enclosure_check::EncloseError;
-use equil::EquilError;
+use crate::words::IntervalError;
+use stack_rules::StackError;
 use std::alloc::{AllocError, AllocFailed};
 
 impl From<AllocError> for SolveError {
@@ -26,39 +26,28 @@ impl<T: Drop> From<AllocFailed<T>> for SolveError {
     }
 }
 
-impl From<EquilError> for SolveError {
-    ghost from_gives = { λ x r. r ≡ working_refusal x };
+impl From<IntervalError> for SolveError {
+    ghost from_gives = { λ x r. r ≡ of_interval x };
 
-    fn from(refusal: EquilError) -> SolveError {
+    fn from(refusal: IntervalError) -> SolveError {
         match refusal {
-            EquilError::Range { row, col } => SolveError::Range { row, col },
-            EquilError::Memory => SolveError::Memory,
+            IntervalError::Past { row, col } => SolveError::Words { row, col },
+            IntervalError::Memory => SolveError::Memory,
         }
     }
 }
 
-impl From<EncloseError> for SolveError {
-    ghost from_gives = { λ x r. r ≡ enclosure_refusal x };
+impl From<StackError> for SolveError {
+    ghost from_gives = { λ x r. r ≡ of_stack x };
 
-    fn from(refusal: EncloseError) -> SolveError {
+    fn from(refusal: StackError) -> SolveError {
         match refusal {
-            EncloseError::Pivot { row } => SolveError::Pivot { row },
-            EncloseError::Condition { col } => SolveError::Condition { col },
-            EncloseError::Range { row } => SolveError::Range { row, col: row },
-            EncloseError::Residual { row, size } => SolveError::Residual { row, size },
-            EncloseError::Defect { row, parts } => SolveError::Defect { row, parts },
-            EncloseError::Memory => SolveError::Memory,
-        }
-    }
-}
-
-impl From<PrintError> for SolveError {
-    ghost from_gives = { λ x r. r ≡ print_refusal x };
-
-    fn from(refusal: PrintError) -> SolveError {
-        match refusal {
-            PrintError::Range { row } => SolveError::Range { row, col: row },
-            PrintError::Memory => SolveError::Memory,
+            StackError::Range { row, col } => SolveError::Range { row, col },
+            StackError::Pivot { row } => SolveError::Pivot { row },
+            StackError::Condition { col } => SolveError::Condition { col },
+            StackError::Residual { row, size } => SolveError::Residual { row, size },
+            StackError::Defect { row, parts } => SolveError::Defect { row, parts },
+            StackError::Memory => SolveError::Memory,
         }
     }
 }

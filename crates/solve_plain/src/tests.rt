@@ -5,6 +5,7 @@ ghost use Rattle.decimal_e.specs.Fractions.{IsAtMost};
 ghost use Rattle.solve_plain.specs.Files.{IsSound, file_of};
 
 use super::*;
+use bounds_report::Printed;
 use decimal_e::Dec;
 use plain_rows::{Element, Parameter, Plain, Row};
 use std::alloc::{AllocError, Global};
@@ -61,10 +62,10 @@ fn one_row(rt: HostRuntime) -> Result<(), Fail> {
 
 fn crosses_threads<T: Send + Sync>() {}
 
-// The word of 10^17 is 10^35.
+// The interval of 10^17 is 10^35.
 #[test]
-fn word_past_its_bound(rt: HostRuntime) -> Result<(), Fail> {
-    crosses_threads::<Solved>();
+fn interval_past_its_bound(rt: HostRuntime) -> Result<(), Fail> {
+    crosses_threads::<FileStack>();
     crosses_threads::<SolveError>();
     let zero = Dec::zero();
     let great = Dec::new(1, 17).ok_or("no matrix")?;

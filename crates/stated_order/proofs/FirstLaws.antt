@@ -21,7 +21,25 @@ first_failure_is_one n P i k a b = neither_less i k (λ l. a.fails (b.before i l
 pub first_failure_fails : (n : ℕ) (P : ℕ → Type 0) (i : ℕ) → HoldsBelow n P → IsFirstFailure n P i → ⊥
 first_failure_fails n P i holds a = a.fails (holds i a.within)
 
+-- what fails first where one property holds, fails first where an equivalent one does
+pub first_failure_moves : (n : ℕ) (P Q : ℕ → Type 0) (i : ℕ) → ((k : ℕ) → k < n → P k → Q k) → ((k : ℕ) → k < n → Q k → P k) → IsFirstFailure n P i → IsFirstFailure n Q i
+first_failure_moves n P Q i to from a =
+    let within = a.within in
+    record { within = a.within; before = λ k l. to k (omega arith) (a.before k l); fails = λ q. a.fails (from i within q) }
+
 -- ---- the first place of a lower triangle
+pub first_lower_failure_moves : (n : ℕ) (P Q : ℕ → ℕ → Type 0) (i j : ℕ) → ((k l : ℕ) → k < n → l ≤ k → P k l → Q k l) → ((k l : ℕ) → k < n → l ≤ k → Q k l → P k l) → IsFirstLowerFailure n P i j → IsFirstLowerFailure n Q i j
+first_lower_failure_moves n P Q i j to from a =
+    let within = a.within in
+    let lower = a.lower in
+    record {
+      within = a.within;
+      lower = a.lower;
+      rows = λ k l row column. to k l (omega arith) column (a.rows k l row column);
+      left = λ l column. to i l within (omega arith) (a.left l column);
+      fails = λ q. a.fails (from i j within lower q);
+    }
+
 pub first_lower_failure_fails : (n : ℕ) (P : ℕ → ℕ → Type 0) (i j : ℕ) → HoldsLower n P → IsFirstLowerFailure n P i j → ⊥
 first_lower_failure_fails n P i j holds a = a.fails (holds i j a.within a.lower)
 

@@ -11,7 +11,7 @@ use enclosure_check::{check, start_vector};
 use equil::{Working, working};
 use interval_word::Iv;
 use plain_rows::{Plain, read_plain};
-use solve_plain::{file_working, solve};
+use solve_plain::{file_stack, solve};
 use std::alloc::Global;
 use std::fs::{self, Files};
 use std::thread::Threads;
@@ -81,7 +81,8 @@ pub fn file_steps<R: Threads + Sync + Clock + Files + Print + AllocGlobal>(
     let file = file_in(alloc, &text)?;
     let read = start.elapsed(rt)?.as_millis();
     let start = Instant::now(rt)?;
-    let w = file_working(alloc, &file)?;
+    let s = file_stack(alloc, &file)?;
+    let w = working(alloc, &s.table, &s.right)?;
     let tables = start.elapsed(rt)?.as_millis();
     working_steps(rt, &w, is_quiet)?;
     let start = Instant::now(rt)?;

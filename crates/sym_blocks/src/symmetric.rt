@@ -66,6 +66,7 @@ impl<const N: usize> SymBlock<N> {
         requires { n ≤ 1000 }
         ensures size { IfOk result (λ b. b.size ≡ n) }
         ensures words { IfOk result (λ b. (i j : ℕ) → i < n → j < n → word b i j ≡ zero_interval) }
+        ensures whole { IfOk result (λ b. length b.words ≡ before b.size) }
     {
         let words = zeros(alloc, n)?;
         Ok(SymBlock { size: n, words })
@@ -75,6 +76,7 @@ impl<const N: usize> SymBlock<N> {
     pub fn size(&self) -> usize
         ensures value { result ≡ self.now.size }
         ensures bound { result ≤ 1000 }
+        ensures whole { length self.now.words ≡ before self.now.size }
     {
         self.size
     }
@@ -95,6 +97,7 @@ impl<const N: usize> SymBlock<N> {
         ensures size { self.new.size ≡ self.old.size }
         ensures here { (k l : ℕ) → IsPair i j k l → word self.new k l ≡ v }
         ensures others { (k l : ℕ) → k < self.old.size → l < self.old.size → ¬ (IsPair i j k l) → word self.new k l ≡ word self.old k l }
+        ensures whole { length self.new.words ≡ before self.new.size }
     {
         self.words[place_of(i, j)] = v;
     }

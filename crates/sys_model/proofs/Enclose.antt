@@ -8,7 +8,8 @@ use Rattle.std.proofs.Common.{cond, eqb, true, false}
 use Rattle.std.proofs.Math.IntN.{zero-*ℤ, *ℤ-zero}
 use Rattle.whole_numbers.specs.Sum.{sum_to, total_to, unit}
 use Rattle.whole_numbers.specs.Intervals.{Holds, interval_scale, sum_intervals, size, interval_shift}
-use Rattle.sys_model.specs.Systems.{row_by, defect_at, System, Fractions, Table, LiesIn, Solves, defect_size, row_parts, residual_interval, row_error, Passes, rho, radius, around, left_at, distance}
+use Rattle.sys_model.specs.Systems.{row_by, System, Fractions, Table, LiesIn, Solves, defect_size, row_parts, residual_interval, row_error, Passes, rho, radius, around, test_of}
+use Rattle.sys_model.proofs.Parts.{defect_at, left_at, distance}
 use Rattle.whole_numbers.proofs.Sums.{sum_to_same, sum_to-*ℤ, sum_to-zero, abs-sum_to, total_to_le, total_to-*, le-total_to}
 use Rattle.whole_numbers.proofs.IntervalLaws.{holds_sub, holds_point, holds_scale, holds_sum, holds_size, holds_shift, up_over_le, two_pow_above}
 use Rattle.sys_model.proofs.Law.{split_row, contraction, vanishing}
@@ -112,7 +113,7 @@ solution_step n g h r t y S v i small lies sol l =
 
 -- Each solution of each system in the words lies around y.
 pub enclosed : (n g h : ℕ) (r : ℕ → ℕ → ℤ) (t : Table) (y : ℕ → ℤ) (B M : ℕ) (S : System) (v : Fractions) (i : ℕ)
-    → Passes n g h r t y B M → LiesIn n t S → Solves n S v → i < n → Holds (around (y i) (radius n g h r t y B M i)) (v.x i) v.s
+    → Passes (test_of n g h r t y B M) → LiesIn n t S → Solves n S v → i < n → Holds (around (y i) (radius n g h r t y B M i)) (v.x i) v.s
 enclosed n g h r t y B M S v i pass lies sol l =
     let D = 2 ^ 30 in
     let room = 2 ^ 30 - B in
@@ -157,7 +158,7 @@ pair_row n g r t S e i lies l rows =
 
 -- Two solutions of one system in the words are equal, as fractions.
 pub unique : (n g h : ℕ) (r : ℕ → ℕ → ℤ) (t : Table) (y : ℕ → ℤ) (B M : ℕ) (S : System) (v u : Fractions) (i : ℕ)
-    → Passes n g h r t y B M → LiesIn n t S → Solves n S v → Solves n S u → i < n → v.x i *ℤ pos u.s ≡ u.x i *ℤ pos v.s
+    → Passes (test_of n g h r t y B M) → LiesIn n t S → Solves n S v → Solves n S u → i < n → v.x i *ℤ pos u.s ≡ u.x i *ℤ pos v.s
 unique n g h r t y B M S v u i pass lies one two l =
     let p = 2 ^ (g + 60) in
     let e = λ (j : ℕ). v.x j *ℤ pos u.s -ℤ u.x j *ℤ pos v.s in

@@ -6,7 +6,7 @@ use Rattle.std.proofs.lemmas.Int.{ints, unsigned_abs-mul}
 use Rattle.std.proofs.Math.Nat.{mul-le-mul}
 use Rattle.std.proofs.lemmas.Bool.Decides.{nat_tests}
 use Rattle.whole_numbers.specs.Sum.{sum_to}
-use Rattle.sys_model.specs.Systems.{row_by, System, Fractions, Table, LiesIn, Solves, Passes, Encloses, radius, defect_size, row_parts}
+use Rattle.sys_model.specs.Systems.{row_by, System, Fractions, Table, LiesIn, Solves, Passes, Encloses, radius, defect_size, row_parts, test_of}
 use Rattle.sys_model.proofs.Law.{vanishing}
 use Rattle.whole_numbers.proofs.IntervalLaws.{two_pow_above}
 use Rattle.sys_model.proofs.Enclose.{pair_row, row_parts_cover, enclosed, unique}
@@ -159,7 +159,7 @@ solvable (suc n) a c inj =
     ]
 
 -- ---- systems in the words of a certificate that passes
-pub injective : (n g h : ℕ) (r : ℕ → ℕ → ℤ) (t : Table) (y : ℕ → ℤ) (B M : ℕ) (S : System) → Passes n g h r t y B M → LiesIn n t S → IsInjective n S.a
+pub injective : (n g h : ℕ) (r : ℕ → ℕ → ℤ) (t : Table) (y : ℕ → ℤ) (B M : ℕ) (S : System) → Passes (test_of n g h r t y B M) → LiesIn n t S → IsInjective n S.a
 injective n g h r t y B M S pass lies x rows i l =
     let below = pass.below in
     let small = vanishing n (defect_size n (2 ^ (g + 60)) r t) (λ j. unsigned_abs (x j)) (row_parts n g r t) (2 ^ 30) (2 ^ (g + 30)) B (2 ^ 30 - B)
@@ -169,13 +169,13 @@ injective n g h r t y B M S pass lies x rows i l =
     pass.parts i l in
     omega (arith, ints, small)
 
-pub solution_exists : (n g h : ℕ) (r : ℕ → ℕ → ℤ) (t : Table) (y : ℕ → ℤ) (B M : ℕ) (S : System) → Passes n g h r t y B M → LiesIn n t S → (v : Fractions) × Solves n S v
+pub solution_exists : (n g h : ℕ) (r : ℕ → ℕ → ℤ) (t : Table) (y : ℕ → ℤ) (B M : ℕ) (S : System) → Passes (test_of n g h r t y B M) → LiesIn n t S → (v : Fractions) × Solves n S v
 solution_exists n g h r t y B M S pass lies =
     let sol = solvable n S.a S.c (injective n g h r t y B M S pass lies) in
     (record { s = sol.s; x = sol.x }, record { some = sol.some; rows = λ i l. omega (arith, ints, sol.rows i l) })
 
 -- The law of the certificate.
-pub encloses : (n g h : ℕ) (r : ℕ → ℕ → ℤ) (t : Table) (y : ℕ → ℤ) (B M : ℕ) → Passes n g h r t y B M → Encloses n t y (radius n g h r t y B M)
+pub encloses : (n g h : ℕ) (r : ℕ → ℕ → ℤ) (t : Table) (y : ℕ → ℤ) (B M : ℕ) → Passes (test_of n g h r t y B M) → Encloses n t y (radius n g h r t y B M)
 encloses n g h r t y B M pass = record {
   contains = λ S v lies sol i l. enclosed n g h r t y B M S v i pass lies sol l;
   same = λ S v u lies one two i l. unique n g h r t y B M S v u i pass lies one two l;

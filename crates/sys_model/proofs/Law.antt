@@ -4,7 +4,8 @@ use Rattle.std.proofs.lemmas.Int.{ints}
 use Rattle.std.proofs.Math.Nat.{mul-le-mul_left, mul-le-mul_right, le_of_mul-le-mul_left}
 use Rattle.std.proofs.Math.Decide.{dec_lt, dec_le}
 use Rattle.whole_numbers.specs.Sum.{sum_to, total_to, unit}
-use Rattle.sys_model.specs.Systems.{row_by, product_at, defect_at, rho}
+use Rattle.sys_model.specs.Systems.{row_by, rho}
+use Rattle.sys_model.proofs.Parts.{product_at, defect_at}
 use Rattle.whole_numbers.proofs.Sums.{sum_to_same, sum_to-+ℤ, sum_to-*ℤ, sum_to_swap, sum_to_unit, total_to_le, total_to-*}
 use Rattle.whole_numbers.proofs.Ring.{ring, *ℤ_comm, *ℤ_assoc}
 

@@ -1,7 +1,7 @@
 -- Lists and functions that agree, and lists with one more member.
 use Rattle.std.proofs.Common.{◌≡◌, ◌<◌, ◌+◌, ◌++◌, ◌∷◌, [], ◌∙◌, ℕ, ℤ, ◌*ℤ◌, ◌-ℤ◌, List, length, get_or, arith, refl, sym, ap, subst}
 use Rattle.std.proofs.Math.Decide.{dec_lt}
-use Rattle.std.proofs.lemmas.List.{get_or_push, get_or_append_left}
+use Rattle.std.proofs.lemmas.List.{ext_get_or, get_or_push, get_or_append_left}
 use Rattle.whole_numbers.specs.Lists.{SameBelow}
 
 pub same_below : (n : ℕ) (u : ℕ → ℤ) → SameBelow n u u
@@ -24,3 +24,6 @@ each_push P xs n x d len before last k h =
           subst (P k) (sym (ap (λ m. get_or (xs ++ x ∷ []) m d) f ∙ get_or_push xs x d (length xs) refl)) (subst (λ m. P m x) e last)
     ]
 
+-- ---- two lists of n members with equal members are equal
+pub equal_lists : {X : Type 0} (d : X) (n : ℕ) (xs ys : List X) → length xs ≡ n → length ys ≡ n → ((k : ℕ) → k < n → get_or xs k d ≡ get_or ys k d) → xs ≡ ys
+equal_lists d n xs ys one other same = ext_get_or d xs ys (one ∙ sym other) (λ k l. same k (subst (λ m. k < m) one l))

@@ -1,5 +1,5 @@
 -- Lists of whole numbers, and square tables kept row by row.
-use Rattle.std.specs.Prelude.{◌≡◌, ◌≤◌, ◌<◌, ◌+◌, ◌*◌, ℕ, ℤ, pos, List, length, slice_index_or, unsigned_abs}
+use Rattle.std.specs.Prelude.{◌≡◌, ◌≤◌, ◌<◌, ◌+◌, ◌*◌, ℕ, ℤ, pos, List, length, slice_index, slice_index_or, unsigned_abs}
 
 -- number k of the list
 abbrev pub at : List ℤ → ℕ → ℤ
@@ -12,6 +12,10 @@ grid n xs i k = at xs (i * n + k)
 -- each number of the list is at most a in size
 abbrev pub AllAtMost : ℕ → List ℤ → Type 0
 AllAtMost a xs = (k : ℕ) → k < length xs → unsigned_abs (at xs k) ≤ a
+
+-- no number of the list passes a
+abbrev pub NonePast : ℕ → List ℕ → Type 0
+NonePast a xs = (k : ℕ) → k < length xs → slice_index xs k ≤ a
 
 -- two functions have the same values below n
 abbrev pub SameBelow : ℕ → (ℕ → ℤ) → (ℕ → ℤ) → Type 0

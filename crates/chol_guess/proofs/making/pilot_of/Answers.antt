@@ -10,4 +10,4 @@ returns-in-Ok-clause-value c =
     let rest = drop (length new) c.in_ok-words.words.items in
     let len : length new ≡ c.in_ok-words.words.len = omega (arith, c.greatest_scale.auto.words) in
     let same = sym (take-append_seam new rest) ∙ ap (λ k. take k (new ++ rest)) len in
-    pilot_made c.args.f.now.size (factor_word c.args.f.now) c.made.result c.in-Ok.g c.size-n.result new (take c.in_ok-words.words.len (new ++ rest)) c.made.ensures (sym c.size-n.ensures.value) same c.in-Ok.ensures.scale
+    pilot_made c.args.f.now.size (factor_word c.args.f.now) c.new.result c.in-Ok.g c.size-n.result new (take c.in_ok-words.words.len (new ++ rest)) c.new.ensures (sym c.size-n.ensures.value) same c.in-Ok.ensures.scale

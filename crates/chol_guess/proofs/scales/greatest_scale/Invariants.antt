@@ -1,13 +1,13 @@
 use Rattle.std.proofs.Common.{◌^◌}
 use Rattle.chol_factor.specs.Factor.{factor_word}
 use Rattle.whole_numbers.specs.Lists.{AllAtMost}
-use Rattle.chol_guess.specs.Pilots.{IsScale}
+use Rattle.enclosures.specs.Pilots.{IsPilotScale}
 use Rattle.chol_guess.specs.Rows.{FailAbove}
 use Rattle.chol_guess.proofs.scales.greatest_scale.Given as goal
 
 abbrev pub invariant-scales : goal.invariant-scales
 invariant-scales l = record {
-  scale : IsScale l.g;
+  scale : IsPilotScale l.g;
   greater : FailAbove l.f.size (factor_word l.f) l.g;
   small : AllAtMost (2 ^ 50) l.words;
 }

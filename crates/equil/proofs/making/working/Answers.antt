@@ -1,4 +1,4 @@
-use Rattle.std.proofs.Common.{arith, ◌∙◌, sym, length}
+use Rattle.std.proofs.Common.{◌∙◌, sym, length}
 use Rattle.equil.proofs.ScaledLaws.{carries}
 use Rattle.equil.proofs.WorkingLaws.{past_table, past_right, scaled_small, right_small, all_working}
 use Rattle.equil.proofs.making.working.Goals as goal
@@ -25,5 +25,5 @@ returns-clause-working g c =
 
 pub returns-clause-systems : goal.returns-clause-systems
 returns-clause-systems g c =
-    carries c.args.table.now.size _ _ c.in-Ok.e.items (omega (arith, c.in-Ok.ensures.len, c.in-Ok.e.ok.0)) c.in-Ok.ensures.range
+    carries c.args.table.now.size _ _ _
     (all_working c.args.table.now c.in-Ok-scaled_table.a c.args.right.now c.in-Ok-scaled_right.d.items c.in-Ok.e.items c.deref.result.now c.deref-2.result.now c.deref.ensures.value c.deref-2.ensures.value c.requires c.in-Ok.ensures.are c.in-Ok-scaled_table.ensures.scaled c.in-Ok-scaled_right.ensures.scaled)

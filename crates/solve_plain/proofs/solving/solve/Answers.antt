@@ -1,73 +1,42 @@
-use Rattle.std.proofs.Common.{◌<◌, ◌∙◌, ℕ, sym, arith}
+use Rattle.std.proofs.Common.{Ok, subst}
 use Rattle.std.proofs.lemmas.Result.{err_from_is_err_and}
-use Rattle.equil.specs.Exponents.{IsInRange}
-use Rattle.equil.specs.Tables.{table_of, exponent_of}
-use Rattle.bounds_report.specs.Printing.{decimal_at}
+use Rattle.stack_rules.specs.Rules as rules
 use Rattle.solve_plain.specs.Files.{file_of}
+use Rattle.solve_plain.specs.Solving.{numbers_in, stack_in}
+use Rattle.solve_plain.proofs.Answering.{answered, refused, same_stack}
+use Rattle.solve_plain.proofs.ExactSystems.{exact_exists}
 use Rattle.solve_plain.proofs.LawExact.{exact_lies}
-use Rattle.solve_plain.proofs.RowLaws.{apriori_is, apriori_len, apriori_modest}
-use Rattle.solve_plain.proofs.SolvingLaws.{enclosure_refused, print_refused, solved, solved_certified}
 use Rattle.solve_plain.proofs.solving.solve.Goals as goal
 
-pub returns-in_err-w-clause-exact : goal.returns-in_err-w-clause-exact
-returns-in_err-w-clause-exact g c = exact_lies (file_of c.args.file.now)
+pub returns-in_err-s-clause-exact : goal.returns-in_err-s-clause-exact
+returns-in_err-s-clause-exact g c = exact_lies (file_of c.args.file.now)
 
-pub returns-in_err-e-clause-exact : goal.returns-in_err-e-clause-exact
-returns-in_err-e-clause-exact g c = exact_lies (file_of c.args.file.now)
+pub returns-in_err-s-clause-exact_exists : goal.returns-in_err-s-clause-exact_exists
+returns-in_err-s-clause-exact_exists g c = exact_exists (file_of c.args.file.now)
 
-pub returns-in_err-apriori-clause-exact : goal.returns-in_err-apriori-clause-exact
-returns-in_err-apriori-clause-exact g c = exact_lies (file_of c.args.file.now)
+pub returns-in_err-solved-clause-refused : goal.returns-in_err-solved-clause-refused
+returns-in_err-solved-clause-refused g c =
+    let s = c.in_ok-s.s in
+    let x = c.in_err-solved.field-0.0 in
+    let same = same_stack s.table c.deref.result.now s.right.items c.deref-2.result.now s.apriori.items c.deref-3.result.now s.scales.items c.deref.ensures.value c.deref-2.ensures.value c.deref-3.ensures.value in
+    let from = err_from_is_err_and c.from_residual-in_err-solved.result c.from_residual-in_err-solved.ensures.1 in
+    rw (from.1, from.2) (refused (file_of c.args.file.now) (stack_in s) c.in_ok-s.ensures.stack x (subst (λ r. rules.IsRefusedWith r x) same c.in_err-solved.ensures.refused))
 
-pub returns-in_err-rows-clause-exact : goal.returns-in_err-rows-clause-exact
-returns-in_err-rows-clause-exact g c = exact_lies (file_of c.args.file.now)
+pub returns-in_err-solved-clause-exact : goal.returns-in_err-solved-clause-exact
+returns-in_err-solved-clause-exact g c = exact_lies (file_of c.args.file.now)
+
+pub returns-in_err-solved-clause-exact_exists : goal.returns-in_err-solved-clause-exact_exists
+returns-in_err-solved-clause-exact_exists g c = exact_exists (file_of c.args.file.now)
+
+pub returns-clause-solved : goal.returns-clause-solved
+returns-clause-solved g c =
+    let s = c.in_ok-s.s in
+    let numbers = numbers_in c.in_ok-solved.solved in
+    let same = same_stack s.table c.deref.result.now s.right.items c.deref-2.result.now s.apriori.items c.deref-3.result.now s.scales.items c.deref.ensures.value c.deref-2.ensures.value c.deref-3.ensures.value in
+    answered (file_of c.args.file.now) (stack_in s) c.in_ok-s.ensures.stack numbers (subst (λ r. rules.IsAnswer r (Ok numbers)) same c.in_ok-solved.ensures.answer)
 
 pub returns-clause-exact : goal.returns-clause-exact
 returns-clause-exact g c = exact_lies (file_of c.args.file.now)
 
-pub returns-in_err-e-clause-refused : goal.returns-in_err-e-clause-refused
-returns-in_err-e-clause-refused g c =
-    let w = c.in_ok-w.w in
-    let from = err_from_is_err_and c.from_residual-in_err-e.result c.from_residual-in_err-e.ensures.1 in
-    rw (from.1, from.2) (enclosure_refused (file_of c.args.file.now) (table_of w.a w.d.items) (exponent_of w.e.items) c.in_ok-w.ensures.working w.a.size c.in_ok-w.ensures.size c.in_err-e.field-0.0 c.in_err-e.ensures.refused)
-
-pub printed-requires : goal.printed-requires
-printed-requires g c =
-    let w = c.in_ok-w.w in
-    let p = file_of c.args.file.now in
-    let rows = c.deref.result.now in
-    let xs = c.deref-2.result.now in (
-      omega arith,
-      (
-        apriori_len p rows c.in_ok-apriori.apriori.items xs c.deref-2.ensures.value c.in_ok-apriori.ensures c.deref.ensures.value ∙ sym c.in_ok-w.ensures.size,
-        (
-          apriori_modest p rows c.in_ok-apriori.apriori.items xs c.deref-2.ensures.value c.in_ok-apriori.ensures c.deref.ensures.value c.requires.sound,
-          (c.in_ok-e.ensures.len, (c.in_ok-e.ensures.small, (c.in_ok-e.ensures.enclosed.certificate.len, c.in_ok-e.ensures.bounded))),
-        ),
-      ),
-    )
-
-pub returns-in_err-rows-clause-refused : goal.returns-in_err-rows-clause-refused
-returns-in_err-rows-clause-refused g c =
-    let w = c.in_ok-w.w in
-    let p = file_of c.args.file.now in
-    let xs = c.deref-2.result.now in
-    let same = apriori_is p c.deref.result.now c.in_ok-apriori.apriori.items xs c.deref-2.ensures.value c.in_ok-apriori.ensures c.deref.ensures.value in
-    let from = err_from_is_err_and c.from_residual-in_err-rows.result c.from_residual-in_err-rows.ensures.1 in
-    rw (from.1, from.2) (print_refused p (table_of w.a w.d.items) (exponent_of w.e.items) c.in_ok-w.ensures.working w.a.size c.in_ok-w.ensures.size c.in_ok-e.e (decimal_at xs) c.in_ok-e.ensures.enclosed same c.in_err-rows.field-0.0 c.in_err-rows.ensures.refused)
-
-pub returns-clause-solved : goal.returns-clause-solved
-returns-clause-solved g c =
-    let w = c.in_ok-w.w in
-    let p = file_of c.args.file.now in
-    let xs = c.deref-2.result.now in
-    let same = apriori_is p c.deref.result.now c.in_ok-apriori.apriori.items xs c.deref-2.ensures.value c.in_ok-apriori.ensures c.deref.ensures.value in
-    solved p (table_of w.a w.d.items) (exponent_of w.e.items) c.in_ok-w.ensures.working w.a.size c.in_ok-w.ensures.size c.in_ok-e.e (decimal_at xs) c.in_ok-rows.rows.items c.in_ok-e.ensures.enclosed same c.in_ok-rows.ensures.printed c.g.result c.g.ensures.value
-
-pub returns-clause-certified : goal.returns-clause-certified
-returns-clause-certified g c =
-    let w = c.in_ok-w.w in
-    let p = file_of c.args.file.now in
-    let xs = c.deref-2.result.now in
-    let same = apriori_is p c.deref.result.now c.in_ok-apriori.apriori.items xs c.deref-2.ensures.value c.in_ok-apriori.ensures c.deref.ensures.value in
-    let range : (i : ℕ) → i < w.a.size → IsInRange (exponent_of w.e.items i) = λ i l. w.in_range i (omega (arith, w.powers, w.e.ok.0)) in
-    solved_certified p (table_of w.a w.d.items) (exponent_of w.e.items) c.in_ok-w.ensures.working w.a.size c.in_ok-w.ensures.size c.in_ok-e.e (decimal_at xs) c.in_ok-rows.rows.items range c.in_ok-w.ensures.systems c.in_ok-e.ensures.encloses same c.in_ok-rows.ensures.printed
+pub returns-clause-exact_exists : goal.returns-clause-exact_exists
+returns-clause-exact_exists g c = exact_exists (file_of c.args.file.now)

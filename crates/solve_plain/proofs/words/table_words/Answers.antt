@@ -17,6 +17,7 @@ loop-e-preserved c =
     let within : c.loop-e.e-index < length c.args.file.now.elements.items = omega (arith, ap length items) in
     record {
       same = c.set.ensures.size ∙ c.loop-e.invariant.same;
+      list = c.set.ensures.whole;
       done = table_step (file_of c.args.file.now) c.loop-e.e-index e c.requires within (c.e-item.is ∙ ap (λ es. get_or es c.loop-e.e-index e) items)
           c.in-Some.word c.loop-e.table c.set.new.self c.loop-e.invariant.same (record { here = c.set.ensures.here; others = c.set.ensures.others }) c.in-Some.ensures.0 c.in-Some.ensures.1 c.loop-e.invariant.done;
     }

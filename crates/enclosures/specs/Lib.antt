@@ -1,0 +1,3 @@
+pub mod Pilots
+pub mod Radii
+pub mod Vectors

@@ -1,0 +1,105 @@
+//! The type of an approximate inverse.
+
+ghost use Rattle.std.specs.Prelude.{◌≡◌, ◌≤◌, ◌<◌, ◌+◌, ◌*◌, ◌^◌, ℕ, ℤ, List, length, unsigned_abs, SomeIff, IsTrue, ◌↔◌};
+ghost use Rattle.enclosures.specs.Pilots.{PilotTable, IsPilotScale, IsPilotTable, pilot_word};
+ghost use Rattle.whole_numbers.specs.Lists.{at, AllAtMost};
+
+use std::marker::Model;
+
+/// The greatest size of a word.
+const LIMIT: u64 = 1 << 50;
+
+/// A pilot: an approximate inverse R of a table, as a square table of words of at most 2^50 in size, in units of
+/// 2^-(g + 60), where `g` is 0, 10, 20, 30, 40 or 50.
+#[derive(Drop)]
+pub struct Pilot {
+    g: u32,
+    size: usize,
+    words: Vec<i64>,
+}
+
+impl Model for Pilot {
+    ghost use Rattle.enclosures.specs.Pilots.{PilotTable, IsPilotTable};
+
+    ghost Value = { PilotTable };
+
+    ghost view = { λ p. record { g = p.g; size = p.size; words = p.words.items } };
+
+    ghost invariant = { λ p. IsPilotTable (record { g = p.g; size = p.size; words = p.words.items }) };
+}
+
+/// Whether a pilot may have this scale.
+fn is_scale(g: u32) -> bool
+    ensures { IsTrue result ↔ IsPilotScale g }
+{
+    g <= 50 && g % 10 == 0
+}
+
+/// Whether no word passes 2^50 in size.
+fn are_small(words: &[i64]) -> bool
+    ensures { IsTrue result ↔ AllAtMost (2 ^ 50) words.now }
+{
+    for k in 0..words.len() {
+        if words[k].unsigned_abs() > LIMIT {
+            return false;
+        }
+    }
+    true
+}
+
+impl Pilot {
+    /// The pilot with these words, row by row. `from_words` tests what is required here.
+    pub fn new(g: u32, size: usize, words: Vec<i64>) -> Pilot
+        requires { IsPilotTable (record { g = g; size = size; words = words.items }) }
+        ensures { result ≡ record { g = g; size = size; words = words.items } }
+    {
+        Pilot { g, size, words }
+    }
+
+    /// The pilot with these words, row by row, and None exactly where `g` is no scale, a word passes 2^50 in size, or
+    /// there are not `size * size` words.
+    pub fn from_words(g: u32, size: usize, words: Vec<i64>) -> Option<Pilot>
+        ensures { SomeIff result (IsPilotTable (record { g = g; size = size; words = words.items })) (record { g = g; size = size; words = words.items }) }
+    {
+        if is_scale(g) && size.checked_mul(size) == Some(words.len()) && are_small(&words) {
+            Some(Pilot { g, size, words })
+        } else {
+            None
+        }
+    }
+
+    /// The scale.
+    pub fn g(&self) -> u32
+        ensures value { result ≡ self.now.g }
+        ensures scale { IsPilotScale result }
+    {
+        self.g
+    }
+
+    /// How many rows and columns the table has.
+    pub fn size(&self) -> usize
+        ensures { result ≡ self.now.size }
+    {
+        self.size
+    }
+
+    /// The words of a row.
+    pub fn row(&self, i: usize) -> &[i64]
+        requires { i < self.now.size }
+        ensures len { length result.now ≡ self.now.size }
+        ensures words { (k : ℕ) → k < self.now.size → at result.now k ≡ pilot_word self.now i k }
+        ensures small { AllAtMost (2 ^ 50) result.now }
+    {
+        &self.words[i * self.size..(i + 1) * self.size]
+    }
+
+    /// The word of row `i` and column `k`.
+    pub fn word(&self, i: usize, k: usize) -> i64
+        requires row { i < self.now.size }
+        requires column { k < self.now.size }
+        ensures value { result ≡ pilot_word self.now i k }
+        ensures small { unsigned_abs result ≤ 2 ^ 50 }
+    {
+        self.row(i)[k]
+    }
+}
