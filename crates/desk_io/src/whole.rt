@@ -1,7 +1,7 @@
 // Whole files over any desk.
 ghost use Rattle.std.specs.Prelude.{◌≡◌, ◌⊎◌, ◌≤◌, ◌<◌, ◌^◌, IsTrue, IsErrOf, OnOk, OnErr, IfOk, false, true, length};
 ghost use Rattle.desk_io.specs.Content.{KeepsAll, after_open, with_writing};
-ghost use Rattle.desk_io.specs.Desk.{HasCause, Rose};
+ghost use Rattle.desk_io.specs.Desk.{HasCause};
 ghost use Rattle.desk_io.specs.Whole.{reading, refusal, Answers, HasReadCause, WritesFile};
 ghost use Rattle.desk_io.specs.declared.whole.ReadError.TheVariants.{Memory};
 
@@ -76,8 +76,6 @@ pub fn read_all<D: Desk>(
     ensures no_file { IsErrOf result ReadError.NoFile → D.facts desk.new ≡ after_open (D.facts desk.old) false }
     ensures too_long { IsErrOf result ReadError.TooLong → limit < (D.facts desk.new).taken }
     ensures cause { HasReadCause (D.faults desk.old) (D.faults desk.new) result }
-    ensures later { D.faults desk.old ≤ D.faults desk.new }
-    ensures fault { IsErrOf result ReadError.Fault → Rose (D.faults desk.old) (D.faults desk.new) }
     ensures writing { (D.facts desk.new).writing ≡ (D.facts desk.old).writing }
 {
     let mut piece = buffer(alloc, PIECE)?;
