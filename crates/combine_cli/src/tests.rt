@@ -476,7 +476,7 @@ fn fifty_stations(alloc: Global) -> Result<String, AllocError> {
 
 // Columns 1 to 44 of row k of that file.
 fn label_of(alloc: Global, k: usize) -> Result<String, AllocError> {
-    let index = k + 1;
+    let index = k.saturating_add(1);
     let axis = if k < 50 {
         "X"
     } else if k < 100 {
