@@ -1,4 +1,4 @@
--- A column in the making, word by word, and the columns one by one.
+-- A column in the making, number by number, and the columns one by one.
 use Rattle.std.proofs.Common.{◌≡◌, ◌≤◌, ◌<◌, ◌+◌, ◌*◌, ◌^◌, ◌∙◌, inl, inr, ℕ, zero, suc, ℤ, pos, negsuc, ◌*ℤ◌, ◌≤ℤ◌, unsigned_abs, List, length, sym, ap, subst, arith}
 use Rattle.std.specs.Int.{IsIsqrt}
 use Rattle.std.proofs.Math.IntN.{◌-ℤ◌}
@@ -8,17 +8,18 @@ use Rattle.std.proofs.lemmas.Int.{ints}
 use Rattle.whole_numbers.specs.Sum.{sum_to}
 use Rattle.whole_numbers.proofs.Sums.{sum_to_same}
 use Rattle.whole_numbers.proofs.Cases.{last_or_before}
-use Rattle.chol_factor.specs.Factor.{FactorTable, factor_word, fixed_product, fixed_quotient, left_of, IsRoot, IsColumn, HasColumns, IsPivot}
-use Rattle.chol_factor.specs.Making.{SetsWord, AgreeBefore, IsWaiting, IsDiagonal, IsBounded, IsStuck}
+use Rattle.whole_numbers.specs.Squares.{SquareTable, square_at, SetsNumber}
+use Rattle.chol_factor.specs.Factor.{fixed_product, fixed_quotient, left_of, IsRoot, IsColumn, HasColumns, IsPivot}
+use Rattle.chol_factor.specs.Making.{AgreeBefore, IsWaiting, IsDiagonal, IsBounded, IsStuck}
 use Rattle.whole_numbers.specs.Lists.{at}
 use Rattle.chol_factor.proofs.Alone.{equal_fixed_products, equal_fixed_quotients, root_alone, left_alone, factor_alone}
 
 -- ---- one number
--- the sum over two rows is that of the table's words
-pub taken_is : (f : FactorTable) (i j : ℕ) (a b : List ℤ) → length a ≡ j → ((c : ℕ) → c < j → at a c ≡ factor_word f i c) → ((c : ℕ) → c < j → at b c ≡ factor_word f j c) → sum_to (length a) (λ k. fixed_product (at a k) (at b k)) ≡ sum_to j (λ k. fixed_product (factor_word f i k) (factor_word f j k))
+-- the sum over two rows is that of the table's numbers
+pub taken_is : (f : SquareTable) (i j : ℕ) (a b : List ℤ) → length a ≡ j → ((c : ℕ) → c < j → at a c ≡ square_at f i c) → ((c : ℕ) → c < j → at b c ≡ square_at f j c) → sum_to (length a) (λ k. fixed_product (at a k) (at b k)) ≡ sum_to j (λ k. fixed_product (square_at f i k) (square_at f j k))
 taken_is f i j a b len left right =
     ap (λ n. sum_to n (λ k. fixed_product (at a k) (at b k))) len
-    ∙ sum_to_same j (λ k. fixed_product (at a k) (at b k)) (λ k. fixed_product (factor_word f i k) (factor_word f j k)) (λ k h. equal_fixed_products (at a k) (factor_word f i k) (at b k) (factor_word f j k) (left k h) (right k h))
+    ∙ sum_to_same j (λ k. fixed_product (at a k) (at b k)) (λ k. fixed_product (square_at f i k) (square_at f j k)) (λ k h. equal_fixed_products (at a k) (square_at f i k) (at b k) (square_at f j k) (left k h) (right k h))
 
 root_small : (k : ℕ) → k * k ≤ 2 ^ 121 → k ≤ 2 ^ 61
 root_small k h =
@@ -46,82 +47,69 @@ diagonal_positive a (negsuc r) some p = absurd (omega (arith, ints, p.least))
 pub bounded_same : (a b r s : ℤ) → a ≡ b → r ≡ s → IsBounded a r → IsBounded b s
 bounded_same a b r s e h p = subst (IsBounded b) h (subst (λ x. IsBounded x r) e p)
 
+pub bounded_small : (a r v : ℤ) → IsBounded a r → v ≡ fixed_quotient a r → unsigned_abs v ≤ 2 ^ 61
+bounded_small a r v b is = subst (λ z. unsigned_abs z ≤ 2 ^ 61) (sym is) b.fits
+
 pub left_same : (m p f : ℕ → ℕ → ℤ) (i j : ℕ) → p i j ≡ m i j → left_of p f i j ≡ left_of m f i j
 left_same m p f i j e = ap (λ a. a -ℤ sum_to j (λ k. fixed_product (f i k) (f j k))) e
 
--- ---- a word written into column j
-pub agree_set : (n : ℕ) (o f g : FactorTable) (i j : ℕ) (v : ℤ) → f.size ≡ n → AgreeBefore n (factor_word o) (factor_word f) j → SetsWord f g i j v → AgreeBefore n (factor_word o) (factor_word g) j
+-- ---- a number written into column j
+pub agree_set : (n : ℕ) (o f g : SquareTable) (i j : ℕ) (v : ℤ) → f.size ≡ n → AgreeBefore n (square_at o) (square_at f) j → SetsNumber f g i j v → AgreeBefore n (square_at o) (square_at g) j
 agree_set n o f g i j v size kept s a b column lower row = kept a b column lower row ∙ sym (s.others a b (omega arith) (omega arith) (λ e. let p = e.1 in absurd (omega arith)))
 
-pub agree_self : (n : ℕ) (f g : FactorTable) (i j : ℕ) (v : ℤ) → n ≤ f.size → SetsWord f g i j v → AgreeBefore n (factor_word f) (factor_word g) j
+pub agree_self : (n : ℕ) (f g : SquareTable) (i j : ℕ) (v : ℤ) → n ≤ f.size → SetsNumber f g i j v → AgreeBefore n (square_at f) (square_at g) j
 agree_self n f g i j v size s a b column lower row = sym (s.others a b (omega arith) (omega arith) (λ e. let p = e.1 in absurd (omega arith)))
 
-pub waiting_set : (n : ℕ) (m : ℕ → ℕ → ℤ) (f g : FactorTable) (i j : ℕ) (v : ℤ) → n ≤ f.size → IsWaiting n m (factor_word f) (j + 1) → SetsWord f g i j v → IsWaiting n m (factor_word g) (j + 1)
+pub waiting_set : (n : ℕ) (m : ℕ → ℕ → ℤ) (f g : SquareTable) (i j : ℕ) (v : ℤ) → n ≤ f.size → IsWaiting n m (square_at f) (j + 1) → SetsNumber f g i j v → IsWaiting n m (square_at g) (j + 1)
 waiting_set n m f g i j v size waiting s a b column lower row = s.others a b (omega arith) (omega arith) (λ e. let p = e.1 in absurd (omega arith)) ∙ waiting a b column lower row
 
 -- the words of column j from row i on are still those of m
 abbrev pub IsRest : ℕ → (ℕ → ℕ → ℤ) → (ℕ → ℕ → ℤ) → ℕ → ℕ → Type 0
 IsRest n m f j i = (a : ℕ) → i ≤ a → a < n → f a j ≡ m a j
 
-pub rest_set : (n : ℕ) (m : ℕ → ℕ → ℤ) (f g : FactorTable) (i j : ℕ) (v : ℤ) → n ≤ f.size → j ≤ i → IsRest n m (factor_word f) j i → SetsWord f g i j v → IsRest n m (factor_word g) j (i + 1)
+pub rest_set : (n : ℕ) (m : ℕ → ℕ → ℤ) (f g : SquareTable) (i j : ℕ) (v : ℤ) → n ≤ f.size → j ≤ i → IsRest n m (square_at f) j i → SetsNumber f g i j v → IsRest n m (square_at g) j (i + 1)
 rest_set n m f g i j v size lower rest s a h row = s.others a j (omega arith) (omega arith) (λ e. let p = e.0 in absurd (omega arith)) ∙ rest a (omega arith) row
 
-pub column_started : (m : ℕ → ℕ → ℤ) (f g : FactorTable) (j : ℕ) (r : ℤ) → j < f.size → IsDiagonal (left_of m (factor_word f) j j) r → SetsWord f g j j r → IsColumn (j + 1) m (factor_word g) j
+pub column_started : (m : ℕ → ℕ → ℤ) (f g : SquareTable) (j : ℕ) (r : ℤ) → j < f.size → IsDiagonal (left_of m (square_at f) j j) r → SetsNumber f g j j r → IsColumn (j + 1) m (square_at g) j
 column_started m f g j r row d s =
     let same = agree_self (j + 1) f g j j r (omega arith) s in
-    let left = left_alone (j + 1) m (factor_word f) (factor_word g) j j same (omega arith) (omega arith) in
-    let here = subst (λ a. IsDiagonal a (factor_word g j j)) left (subst (IsDiagonal (left_of m (factor_word f) j j)) (sym s.here) d) in
+    let left = left_alone (j + 1) m (square_at f) (square_at g) j j same (omega arith) (omega arith) in
+    let here = subst (λ a. IsDiagonal a (square_at g j j)) left (subst (IsDiagonal (left_of m (square_at f) j j)) (sym s.here) d) in
     record {
       pivot = here.pivot;
       root = here.root;
       below = λ i h l. absurd (omega arith);
-      left_fits = λ i h l. let e : j ≡ i = omega arith in subst (λ k. unsigned_abs (left_of m (factor_word g) k j) ≤ 2 ^ 61) e here.left_fits;
-      fits = λ i h l. let e : j ≡ i = omega arith in subst (λ k. unsigned_abs (factor_word g k j) ≤ 2 ^ 61) e here.fits;
+      left_fits = λ i h l. let e : j ≡ i = omega arith in subst (λ k. unsigned_abs (left_of m (square_at g) k j) ≤ 2 ^ 61) e here.left_fits;
+      fits = λ i h l. let e : j ≡ i = omega arith in subst (λ k. unsigned_abs (square_at g k j) ≤ 2 ^ 61) e here.fits;
     }
 
-pub column_more : (m : ℕ → ℕ → ℤ) (f g : FactorTable) (i j : ℕ) (a r v : ℤ) → j < i → i < f.size → IsColumn i m (factor_word f) j → a ≡ left_of m (factor_word f) i j → factor_word f j j ≡ r → IsBounded a r → v ≡ fixed_quotient a r → SetsWord f g i j v → IsColumn (i + 1) m (factor_word g) j
+pub column_more : (m : ℕ → ℕ → ℤ) (f g : SquareTable) (i j : ℕ) (a r v : ℤ) → j < i → i < f.size → IsColumn i m (square_at f) j → a ≡ left_of m (square_at f) i j → square_at f j j ≡ r → IsBounded a r → v ≡ fixed_quotient a r → SetsNumber f g i j v → IsColumn (i + 1) m (square_at g) j
 column_more m f g i j a r v lower row p at_a at_r bounded quotient s =
-    let b = bounded_same a (left_of m (factor_word f) i j) r (factor_word f j j) at_a (sym at_r) bounded in
-    let is = quotient ∙ equal_fixed_quotients a (left_of m (factor_word f) i j) r (factor_word f j j) at_a (sym at_r) in
+    let b = bounded_same a (left_of m (square_at f) i j) r (square_at f j j) at_a (sym at_r) bounded in
+    let is = quotient ∙ equal_fixed_quotients a (left_of m (square_at f) i j) r (square_at f j j) at_a (sym at_r) in
     let same = agree_self (i + 1) f g i j v (omega arith) s in
-    let left = λ (k : ℕ) (h : j ≤ k) (l : k < i + 1). left_alone (i + 1) m (factor_word f) (factor_word g) k j same h l in
+    let left = λ (k : ℕ) (h : j ≤ k) (l : k < i + 1). left_alone (i + 1) m (square_at f) (square_at g) k j same h l in
     let word = λ (k : ℕ) (l : k < i). sym (s.others k j (omega arith) (omega arith) (λ e. let q = e.0 in absurd (omega arith))) in
     let diagonal = word j lower in
-    let here : factor_word g i j ≡ fixed_quotient (left_of m (factor_word g) i j) (factor_word g j j) = s.here ∙ is ∙ equal_fixed_quotients _ _ _ _ (left i (omega arith) (omega arith)) diagonal in
+    let here : square_at g i j ≡ fixed_quotient (left_of m (square_at g) i j) (square_at g j j) = s.here ∙ is ∙ equal_fixed_quotients _ _ _ _ (left i (omega arith) (omega arith)) diagonal in
     record {
       pivot = subst (λ a. pos 1 ≤ℤ a) (left j (omega arith) (omega arith)) p.pivot;
-      root = subst (IsRoot (left_of m (factor_word g) j j)) diagonal (subst (λ a. IsRoot a (factor_word f j j)) (left j (omega arith) (omega arith)) p.root);
+      root = subst (IsRoot (left_of m (square_at g) j j)) diagonal (subst (λ a. IsRoot a (square_at f j j)) (left j (omega arith) (omega arith)) p.root);
       below = λ k h l. elim (last_or_before k i l) [
         | inl q ↦ sym (word k q) ∙ p.below k h q ∙ equal_fixed_quotients _ _ _ _ (left k (omega arith) l) diagonal
-        | inr q ↦ subst (λ x. factor_word g x j ≡ fixed_quotient (left_of m (factor_word g) x j) (factor_word g j j)) (sym q) here
+        | inr q ↦ subst (λ x. square_at g x j ≡ fixed_quotient (left_of m (square_at g) x j) (square_at g j j)) (sym q) here
       ];
       left_fits = λ k h l. elim (last_or_before k i l) [
         | inl q ↦ subst (λ a. unsigned_abs a ≤ 2 ^ 61) (left k h l) (p.left_fits k h q)
-        | inr q ↦ subst (λ a. unsigned_abs a ≤ 2 ^ 61) (left k h l) (subst (λ x. unsigned_abs (left_of m (factor_word f) x j) ≤ 2 ^ 61) (sym q) b.left_fits)
+        | inr q ↦ subst (λ a. unsigned_abs a ≤ 2 ^ 61) (left k h l) (subst (λ x. unsigned_abs (left_of m (square_at f) x j) ≤ 2 ^ 61) (sym q) b.left_fits)
       ];
       fits = λ k h l. elim (last_or_before k i l) [
         | inl q ↦ subst (λ a. unsigned_abs a ≤ 2 ^ 61) (word k q) (p.fits k h q)
-        | inr q ↦ subst (λ x. unsigned_abs (factor_word g x j) ≤ 2 ^ 61) (sym q) (subst (λ a. unsigned_abs a ≤ 2 ^ 61) (sym (s.here ∙ is)) b.fits)
+        | inr q ↦ subst (λ x. unsigned_abs (square_at g x j) ≤ 2 ^ 61) (sym q) (subst (λ a. unsigned_abs a ≤ 2 ^ 61) (sym (s.here ∙ is)) b.fits)
       ];
     }
 
--- ---- a row of middles
-pub row_filled : (m : ℕ → ℕ → ℤ) (f g : FactorTable) (i k : ℕ) (v : ℤ) → i < f.size → k ≤ i → v ≡ m i k → IsWaiting i m (factor_word f) 0 → ((c : ℕ) → c < k → factor_word f i c ≡ m i c) → SetsWord f g i k v → IsWaiting i m (factor_word g) 0 × ((c : ℕ) → c < k + 1 → factor_word g i c ≡ m i c)
-row_filled m f g i k v row column is before words s = (
-  λ a b z lower above. s.others a b (omega arith) (omega arith) (λ e. let p = e.0 in absurd (omega arith)) ∙ before a b z lower above,
-  λ c h. elim (last_or_before c k h) [
-    | inl q ↦ s.others i c row (omega arith) (λ e. let p = e.1 in absurd (omega arith)) ∙ words c q
-    | inr q ↦ subst (λ x. factor_word g i x ≡ m i x) (sym q) (s.here ∙ is)
-  ],
-)
-
-pub rows_filled : (m f : ℕ → ℕ → ℤ) (i : ℕ) → IsWaiting i m f 0 → ((c : ℕ) → c < i + 1 → f i c ≡ m i c) → IsWaiting (i + 1) m f 0
-rows_filled m f i before words a b z lower row = elim (last_or_before a i row) [
-  | inl q ↦ before a b z lower q
-  | inr q ↦ subst (λ x. f x b ≡ m x b) (sym q) (words b (omega arith))
-]
-
--- ---- the same middles in column j
+-- ---- the same numbers in column j
 pub column_of : (n : ℕ) (m p g : ℕ → ℕ → ℤ) (j : ℕ) → j < n → IsRest n m p j j → IsColumn n p g j → IsColumn n m g j
 column_of n m p g j row same c =
     let left = λ (i : ℕ) (h : j ≤ i) (l : i < n). left_same m p g i j (same i h l) in

@@ -1,4 +1,3 @@
 pub mod Alone
 pub mod ColumnLaws
-pub mod Places
 pub mod SumLaws

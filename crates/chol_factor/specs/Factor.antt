@@ -1,16 +1,11 @@
 -- The factor of a symmetric table of whole numbers: a lower triangle whose product with its own transpose comes near the
 -- table (Cholesky). All of it is in units of 2^-60, and each product and quotient is rounded down. No law rests on how
 -- near it comes.
-use Rattle.std.specs.Prelude.{◌≡◌, ◌≤◌, ◌<◌, ◌*◌, ◌^◌, ℕ, suc, ℤ, pos, ◌+ℤ◌, ◌-ℤ◌, ◌*ℤ◌, ◌≤ℤ◌, ◌<ℤ◌, unsigned_abs, List, length}
+use Rattle.std.specs.Prelude.{◌≡◌, ◌≤◌, ◌<◌, ◌^◌, ℕ, suc, ℤ, pos, ◌+ℤ◌, ◌-ℤ◌, ◌*ℤ◌, ◌≤ℤ◌, ◌<ℤ◌, unsigned_abs}
 use Rattle.whole_numbers.specs.Sum.{sum_to}
 use Rattle.whole_numbers.specs.Quotients.{floor_over}
-use Rattle.whole_numbers.specs.Intervals.{Interval, midpoint}
-use Rattle.whole_numbers.specs.Lists.{grid, AllAtMost}
-use Rattle.sym_blocks.specs.Tables.{SymTable, word}
-
--- the middles of the words of a table
-abbrev pub midpoints : SymTable → ℕ → ℕ → ℤ
-midpoints a i j = midpoint (word a i j)
+use Rattle.whole_numbers.specs.Lists.{AllAtMost}
+use Rattle.whole_numbers.specs.Squares.{SquareTable, square_at}
 
 -- a * b / 2^60
 abbrev pub fixed_product : ℤ → ℤ → ℤ
@@ -48,18 +43,7 @@ pub record IsPivot (n : ℕ) (m : ℕ → ℕ → ℤ) (j : ℕ) : Type 0 where
   pub before : (f : ℕ → ℕ → ℤ) × HasColumns n m f j
   pub none : (f : ℕ → ℕ → ℤ) → ¬ (HasColumns n m f (suc j))
 
--- a square table of numbers
-pub record FactorTable : Type 0 where
-  pub size : ℕ
-  pub words : List ℤ
-
--- the number of row i and column k
-abbrev pub factor_word : FactorTable → ℕ → ℕ → ℤ
-factor_word f i k = grid f.size f.words i k
-
 -- what each factor keeps
-pub record IsKept (f : FactorTable) : Type 0 where
-  pub few : f.size ≤ 1000
-  pub square : length f.words ≡ f.size * f.size
-  pub small : AllAtMost (2 ^ 61) f.words
-  pub positive : (i : ℕ) → i < f.size → pos 1 ≤ℤ factor_word f i i
+pub record IsFactorTable (f : SquareTable) : Type 0 where
+  pub small : AllAtMost (2 ^ 61) f.numbers
+  pub positive : (i : ℕ) → i < f.size → pos 1 ≤ℤ square_at f i i

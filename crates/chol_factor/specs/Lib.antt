@@ -1,3 +1,4 @@
+-- A stranger reads Factor and Refusals. Making serves private functions alone.
 pub mod Factor
 pub mod Making
 pub mod Refusals

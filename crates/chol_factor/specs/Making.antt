@@ -1,21 +1,8 @@
--- A factor in the making, column by column.
-use Rattle.std.specs.Prelude.{◌≡◌, ◌≤◌, ◌<◌, ◌*◌, ◌^◌, ℕ, ℤ, pos, ◌≤ℤ◌, length, unsigned_abs}
-use Rattle.chol_factor.specs.Factor.{FactorTable, factor_word, fixed_quotient, IsRoot, IsColumn}
-use Rattle.whole_numbers.specs.Lists.{AllAtMost}
+-- A factor in the making, column by column. Private functions alone speak of it.
+use Rattle.std.specs.Prelude.{◌≡◌, ◌≤◌, ◌<◌, ◌^◌, ℕ, ℤ, pos, ◌≤ℤ◌, unsigned_abs}
+use Rattle.chol_factor.specs.Factor.{fixed_quotient, IsRoot, IsColumn}
 
--- what each table in the making keeps
-pub record IsSquare (f : FactorTable) : Type 0 where
-  pub few : f.size ≤ 1000
-  pub square : length f.words ≡ f.size * f.size
-  pub small : AllAtMost (2 ^ 61) f.words
-
--- g is f with v at (i, k)
-pub record SetsWord (f g : FactorTable) (i k : ℕ) (v : ℤ) : Type 0 where
-  pub size : g.size ≡ f.size
-  pub here : factor_word g i k ≡ v
-  pub others : (a b : ℕ) → a < f.size → b < f.size → ¬ ((a ≡ i) × (b ≡ k)) → factor_word g a b ≡ factor_word f a b
-
--- f and g have equal words in the columns before column j, from the diagonal down
+-- f and g have equal numbers in the columns before column j, from the diagonal down
 abbrev pub AgreeBefore : ℕ → (ℕ → ℕ → ℤ) → (ℕ → ℕ → ℤ) → ℕ → Type 0
 AgreeBefore n f g j = (i k : ℕ) → k < j → k ≤ i → i < n → f i k ≡ g i k
 
@@ -23,7 +10,7 @@ AgreeBefore n f g j = (i k : ℕ) → k < j → k ≤ i → i < n → f i k ≡ 
 abbrev pub IsWaiting : ℕ → (ℕ → ℕ → ℤ) → (ℕ → ℕ → ℤ) → ℕ → Type 0
 IsWaiting n m f j = (i k : ℕ) → j ≤ k → k ≤ i → i < n → f i k ≡ m i k
 
--- r is the word of the diagonal where the columns before leave a of it
+-- r is the number of the diagonal where the columns before leave a of it
 pub record IsDiagonal (a r : ℤ) : Type 0 where
   pub pivot : pos 1 ≤ℤ a
   pub root : IsRoot a r

@@ -1,10 +1,9 @@
 -- Where a table has no factor.
-use Rattle.std.specs.Prelude.{ℕ, ℤ, ⊤}
+use Rattle.std.specs.Prelude.{ℕ, ℤ}
 use Rattle.chol_factor.specs.Factor.{IsPivot}
 use Rattle.chol_factor.specs.declared.FactorError.{FactorError}
-use Rattle.chol_factor.specs.declared.FactorError.TheVariants.{Pivot, Memory}
+use Rattle.chol_factor.specs.declared.FactorError.TheVariants.{Pivot}
 
--- what a refusal says of the table m with n rows: nothing where memory is wanting
+-- what a refusal says of the table m with n rows
 abbrev pub IsFactorRefused : ℕ → (ℕ → ℕ → ℤ) → FactorError → Type 0
 IsFactorRefused n m (Pivot row) = IsPivot n m row
-IsFactorRefused n m Memory = ⊤

@@ -8,10 +8,10 @@ use Rattle.whole_numbers.specs.Sum.{unit}
 use Rattle.whole_numbers.proofs.Sums.{sum_to_same}
 use Rattle.chol_factor.specs.Factor.{fixed_product, fixed_quotient, HasColumns, IsPivot}
 use Rattle.chol_factor.proofs.Alone.{equal_fixed_products, equal_fixed_quotients, factor_alone, no_pivot_below}
-use Rattle.chol_guess.specs.Columns.{up_left, down_left, IsUp, IsDown, IsInverseColumn, StayInBounds}
+use Rattle.chol_guess.specs.Columns.{forward_left, back_left, IsForwardSolution, IsBackSolution, IsInverseColumn, StayInBounds}
 use Rattle.chol_guess.specs.Pilots.{IsPilot, IsCondition, nearest}
 use Rattle.enclosures.specs.Pilots.{PilotTable, pilot_word}
-use Rattle.chol_guess.specs.Rows.{QuotientFits, IsDownFrom}
+use Rattle.chol_guess.specs.Rows.{QuotientFits, IsBackFrom}
 
 -- two tables have the same words up to the diagonal, in the rows below n
 abbrev pub SameLower : ℕ → (ℕ → ℕ → ℤ) → (ℕ → ℕ → ℤ) → Type 0
@@ -20,20 +20,20 @@ SameLower n f h = (i k : ℕ) → i < n → k ≤ i → f i k ≡ h i k
 pub same_lower : (n : ℕ) (f : ℕ → ℕ → ℤ) → SameLower n f f
 same_lower n f i k row lower = refl
 
--- ---- going up
-pub up_left_same : (f h : ℕ → ℕ → ℤ) (g c : ℕ) (u v : ℕ → ℤ) (n i : ℕ) → i < n → SameLower n f h → SameBelow i u v → up_left f g c u i ≡ up_left h g c v i
+-- ---- forward substitution
+pub up_left_same : (f h : ℕ → ℕ → ℤ) (g c : ℕ) (u v : ℕ → ℤ) (n i : ℕ) → i < n → SameLower n f h → SameBelow i u v → forward_left f g c u i ≡ forward_left h g c v i
 up_left_same f h g c u v n i row same below =
     ap (λ s. unit c (pos (2 ^ (g + 10))) i -ℤ s) (sum_to_same i (λ k. fixed_product (f i k) (u k)) (λ k. fixed_product (h i k) (v k)) (λ k l. equal_fixed_products (f i k) (h i k) (u k) (v k) (same i k row (omega arith)) (below k l)))
 
 -- the same rows of another list, under another factor with the same lower words
-pub up_same : (f h : ℕ → ℕ → ℤ) (g c : ℕ) (u v : ℕ → ℤ) (n m : ℕ) → m ≤ n → SameLower n f h → SameBelow m u v → IsUp m f g c u → IsUp m h g c v
+pub up_same : (f h : ℕ → ℕ → ℤ) (g c : ℕ) (u v : ℕ → ℤ) (n m : ℕ) → m ≤ n → SameLower n f h → SameBelow m u v → IsForwardSolution m f g c u → IsForwardSolution m h g c v
 up_same f h g c u v n m le same below up = record {
   rows = λ i row. sym (below i row) ∙ up.rows i row ∙ equal_fixed_quotients _ _ (f i i) (h i i) (up_left_same f h g c u v n i (omega arith) same (λ k l. below k (omega arith))) (same i i (omega arith) (omega arith));
   left_fits = λ i row. subst (λ z. unsigned_abs z ≤ 2 ^ 66) (up_left_same f h g c u v n i (omega arith) same (λ k l. below k (omega arith))) (up.left_fits i row);
   fits = λ i row. subst (λ z. unsigned_abs z ≤ 2 ^ 64) (below i row) (up.fits i row);
 }
 
-pub up_fewer : (f : ℕ → ℕ → ℤ) (g c : ℕ) (u : ℕ → ℤ) (n m : ℕ) → m ≤ n → IsUp n f g c u → IsUp m f g c u
+pub up_fewer : (f : ℕ → ℕ → ℤ) (g c : ℕ) (u : ℕ → ℤ) (n m : ℕ) → m ≤ n → IsForwardSolution n f g c u → IsForwardSolution m f g c u
 up_fewer f g c u n m le up = record {
   rows = λ i row. up.rows i (omega arith);
   left_fits = λ i row. up.left_fits i (omega arith);
@@ -48,15 +48,15 @@ more_same m u v before here k h =
       | no l ↦ let e : m ≡ k = omega arith in subst (λ j. u j ≡ v j) e here
     ]
 
-pub up_alone : (m : ℕ) (f : ℕ → ℕ → ℤ) (g c : ℕ) (u v : ℕ → ℤ) → IsUp m f g c u → IsUp m f g c v → SameBelow m u v
+pub up_alone : (m : ℕ) (f : ℕ → ℕ → ℤ) (g c : ℕ) (u v : ℕ → ℤ) → IsForwardSolution m f g c u → IsForwardSolution m f g c v → SameBelow m u v
 up_alone zero f g c u v a b = λ k h. absurd (omega arith)
 up_alone (suc m) f g c u v a b =
     let before = up_alone m f g c u v (up_fewer f g c u (suc m) m (omega arith) a) (up_fewer f g c v (suc m) m (omega arith) b) in
     let left = up_left_same f f g c u v (suc m) m (omega arith) (same_lower (suc m) f) before in
     more_same m u v before (a.rows m (omega arith) ∙ ap (λ z. fixed_quotient z (f m m)) left ∙ sym (b.rows m (omega arith)))
 
--- where row i fails its bounds, there is no going up
-pub up_stops : (n i : ℕ) (f : ℕ → ℕ → ℤ) (g c : ℕ) (u v : ℕ → ℤ) → i < n → IsUp i f g c u → ¬ (QuotientFits (up_left f g c u i) (f i i) (2 ^ 64)) → ¬ (IsUp n f g c v)
+-- where row i fails its bounds, there is no forward substitution
+pub up_stops : (n i : ℕ) (f : ℕ → ℕ → ℤ) (g c : ℕ) (u v : ℕ → ℤ) → i < n → IsForwardSolution i f g c u → ¬ (QuotientFits (forward_left f g c u i) (f i i) (2 ^ 64)) → ¬ (IsForwardSolution n f g c v)
 up_stops n i f g c u v row so_far fails up =
     let same = up_alone i f g c v u (up_fewer f g c v n i (omega arith) up) so_far in
     let left = up_left_same f f g c v u n i row (same_lower n f) same in
@@ -65,38 +65,38 @@ up_stops n i f g c u v row so_far fails up =
       fits = subst (λ z. unsigned_abs z ≤ 2 ^ 64) (up.rows i row ∙ ap (λ z. fixed_quotient z (f i i)) left) (up.fits i row);
     })
 
--- ---- going down
+-- ---- back substitution
 abbrev pub SameFrom : ℕ → ℕ → (ℕ → ℤ) → (ℕ → ℤ) → Type 0
 SameFrom n m x y = (k : ℕ) → m ≤ k → k < n → x k ≡ y k
 
-pub down_left_same : (f h : ℕ → ℕ → ℤ) (u v x y : ℕ → ℤ) (n i : ℕ) → i < n → SameLower n f h → SameBelow n u v → SameFrom n (suc i) x y → down_left n f u x i ≡ down_left n h v y i
+pub down_left_same : (f h : ℕ → ℕ → ℤ) (u v x y : ℕ → ℤ) (n i : ℕ) → i < n → SameLower n f h → SameBelow n u v → SameFrom n (suc i) x y → back_left n f u x i ≡ back_left n h v y i
 down_left_same f h u v x y n i row same above past =
     minus_same _ _ _ _ (above i row)
     (sum_to_same (n - suc i) (λ d. fixed_product (f (suc i + d) i) (x (suc i + d))) (λ d. fixed_product (h (suc i + d) i) (y (suc i + d)))
     (λ d l. equal_fixed_products (f (suc i + d) i) (h (suc i + d) i) (x (suc i + d)) (y (suc i + d)) (same (suc i + d) i (omega arith) (omega arith)) (past (suc i + d) (omega arith) (omega arith))))
 
-pub down_same : (f h : ℕ → ℕ → ℤ) (u v x y : ℕ → ℤ) (n m : ℕ) → SameLower n f h → SameBelow n u v → SameFrom n m x y → IsDownFrom n m f u x → IsDownFrom n m h v y
+pub down_same : (f h : ℕ → ℕ → ℤ) (u v x y : ℕ → ℤ) (n m : ℕ) → SameLower n f h → SameBelow n u v → SameFrom n m x y → IsBackFrom n m f u x → IsBackFrom n m h v y
 down_same f h u v x y n m same above past down = record {
   rows = λ i from row. sym (past i from row) ∙ down.rows i from row ∙ equal_fixed_quotients _ _ (f i i) (h i i) (down_left_same f h u v x y n i row same above (λ k l lt. past k (omega arith) lt)) (same i i row (omega arith));
   left_fits = λ i from row. subst (λ z. unsigned_abs z ≤ 2 ^ 66) (down_left_same f h u v x y n i row same above (λ k l lt. past k (omega arith) lt)) (down.left_fits i from row);
   fits = λ i from row. subst (λ z. unsigned_abs z ≤ 2 ^ 60) (past i from row) (down.fits i from row);
 }
 
-pub down_from : (n m : ℕ) (f : ℕ → ℕ → ℤ) (u x : ℕ → ℤ) → IsDown n f u x → IsDownFrom n m f u x
+pub down_from : (n m : ℕ) (f : ℕ → ℕ → ℤ) (u x : ℕ → ℤ) → IsBackSolution n f u x → IsBackFrom n m f u x
 down_from n m f u x down = record {
   rows = λ i from row. down.rows i row;
   left_fits = λ i from row. down.left_fits i row;
   fits = λ i from row. down.fits i row;
 }
 
-pub down_whole : (n m : ℕ) (f : ℕ → ℕ → ℤ) (u x : ℕ → ℤ) → m ≡ 0 → IsDownFrom n m f u x → IsDown n f u x
+pub down_whole : (n m : ℕ) (f : ℕ → ℕ → ℤ) (u x : ℕ → ℤ) → m ≡ 0 → IsBackFrom n m f u x → IsBackSolution n f u x
 down_whole n m f u x none down = record {
   rows = λ i row. down.rows i (omega arith) row;
   left_fits = λ i row. down.left_fits i (omega arith) row;
   fits = λ i row. down.fits i (omega arith) row;
 }
 
-fewer_down : (n m : ℕ) (f : ℕ → ℕ → ℤ) (u x : ℕ → ℤ) → IsDownFrom n m f u x → IsDownFrom n (suc m) f u x
+fewer_down : (n m : ℕ) (f : ℕ → ℕ → ℤ) (u x : ℕ → ℤ) → IsBackFrom n m f u x → IsBackFrom n (suc m) f u x
 fewer_down n m f u x down = record {
   rows = λ i from row. down.rows i (omega arith) row;
   left_fits = λ i from row. down.left_fits i (omega arith) row;
@@ -111,7 +111,7 @@ earlier_same n m x y past here k from row =
     ]
 
 -- by the number of rows from row m on
-down_alone_by : (d n m : ℕ) (f : ℕ → ℕ → ℤ) (u x y : ℕ → ℤ) → n ≤ m + d → IsDownFrom n m f u x → IsDownFrom n m f u y → SameFrom n m x y
+down_alone_by : (d n m : ℕ) (f : ℕ → ℕ → ℤ) (u x y : ℕ → ℤ) → n ≤ m + d → IsBackFrom n m f u x → IsBackFrom n m f u y → SameFrom n m x y
 down_alone_by zero n m f u x y end a b = λ k from row. absurd (omega arith)
 down_alone_by (suc d) n m f u x y end a b =
     let past = down_alone_by d n (suc m) f u x y (omega arith) (fewer_down n m f u x a) (fewer_down n m f u y b) in
@@ -119,11 +119,11 @@ down_alone_by (suc d) n m f u x y end a b =
     let left = down_left_same f f u u x y n m row (same_lower n f) (same_below n u) past in
     a.rows m (omega arith) row ∙ ap (λ z. fixed_quotient z (f m m)) left ∙ sym (b.rows m (omega arith) row))
 
-pub down_alone : (n m : ℕ) (f : ℕ → ℕ → ℤ) (u x y : ℕ → ℤ) → IsDownFrom n m f u x → IsDownFrom n m f u y → SameFrom n m x y
+pub down_alone : (n m : ℕ) (f : ℕ → ℕ → ℤ) (u x y : ℕ → ℤ) → IsBackFrom n m f u x → IsBackFrom n m f u y → SameFrom n m x y
 down_alone n m f u x y a b = down_alone_by n n m f u x y (omega arith) a b
 
--- where row i fails its bounds, there is no going down
-pub down_stops : (n i : ℕ) (f : ℕ → ℕ → ℤ) (u x y : ℕ → ℤ) → i < n → IsDownFrom n (suc i) f u x → ¬ (QuotientFits (down_left n f u x i) (f i i) (2 ^ 60)) → ¬ (IsDown n f u y)
+-- where row i fails its bounds, there is no back substitution
+pub down_stops : (n i : ℕ) (f : ℕ → ℕ → ℤ) (u x y : ℕ → ℤ) → i < n → IsBackFrom n (suc i) f u x → ¬ (QuotientFits (back_left n f u x i) (f i i) (2 ^ 60)) → ¬ (IsBackSolution n f u y)
 down_stops n i f u x y row so_far fails down =
     let same = down_alone n (suc i) f u y x (down_from n (suc i) f u y down) so_far in
     let left = down_left_same f f u u y x n i row (same_lower n f) (same_below n u) same in
@@ -148,8 +148,8 @@ column_same n f h g c x same a = record {
   down = down_whole n 0 h a.u x refl (down_same f h a.u a.u x x n 0 same (same_below n a.u) (λ k from row. refl) (down_from n 0 f a.u x a.down));
 }
 
--- where there is no going down from a going up, there is no column
-pub column_stops : (n : ℕ) (f : ℕ → ℕ → ℤ) (g c : ℕ) (u y : ℕ → ℤ) → IsUp n f g c u → ((x : ℕ → ℤ) → ¬ (IsDown n f u x)) → ¬ (IsInverseColumn n f g c y)
+-- where there is no back substitution, there is no column
+pub column_stops : (n : ℕ) (f : ℕ → ℕ → ℤ) (g c : ℕ) (u y : ℕ → ℤ) → IsForwardSolution n f g c u → ((x : ℕ → ℤ) → ¬ (IsBackSolution n f u x)) → ¬ (IsInverseColumn n f g c y)
 column_stops n f g c u y up none a =
     let ups = up_alone n f g c a.u u a.up up in
     none y (down_whole n 0 f u y refl (down_same f f a.u u y y n 0 (same_lower n f) ups (λ k from row. refl) (down_from n 0 f a.u y a.down)))

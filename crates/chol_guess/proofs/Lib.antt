@@ -1,4 +1,5 @@
 pub mod Alone
+pub mod Carried
 pub mod Makings
 pub mod Placed
 pub mod Ranges

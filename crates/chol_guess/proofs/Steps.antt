@@ -11,8 +11,8 @@ use Rattle.whole_numbers.proofs.Sums.{sum_to_same, unit_here, unit_other}
 use Rattle.chol_factor.specs.Factor.{fixed_product, fixed_quotient}
 use Rattle.chol_factor.proofs.Alone.{equal_fixed_products}
 use Rattle.whole_numbers.specs.Lists.{at, SameBelow}
-use Rattle.chol_guess.specs.Columns.{up_left, down_left, sum_past, IsUp}
-use Rattle.chol_guess.specs.Rows.{IsUpBefore, IsTransposed, IsDownFrom, QuotientFits}
+use Rattle.chol_guess.specs.Columns.{forward_left, back_left, sum_past, IsForwardSolution}
+use Rattle.chol_guess.specs.Rows.{IsForwardBefore, IsTransposed, IsBackFrom, QuotientFits}
 use Rattle.chol_guess.proofs.Alone.{SameFrom, up_same, up_left_same, up_fewer, up_alone, down_same, down_left_same, same_lower}
 use Rattle.chol_guess.proofs.Ranges.{sum_to_from, sum_to_none}
 use Rattle.whole_numbers.proofs.ListLaws.{same_below}
@@ -27,30 +27,30 @@ ratio_zero : (a b : ℤ) → a ≡ pos 0 → fixed_quotient a b ≡ pos 0
 ratio_zero a b e = ap (λ z. fixed_quotient z b) e ∙ ap (λ z. floor_over z (unsigned_abs b)) (zero-*ℤ (pos (2 ^ 60))) ∙ ap pos (zero-div (unsigned_abs b))
 
 -- ---- the rows before row c are 0
-left_zero : (f : ℕ → ℕ → ℤ) (g c i : ℕ) → i < c → up_left f g c (λ k. pos 0) i ≡ pos 0
+left_zero : (f : ℕ → ℕ → ℤ) (g c i : ℕ) → i < c → forward_left f g c (λ k. pos 0) i ≡ pos 0
 left_zero f g c i row =
     let one = unit_other c (pos (2 ^ (g + 10))) i (omega arith) in
     let rest = sum_to_none i (λ k. fixed_product (f i k) (pos 0)) (λ k l. part_zero (f i k) (pos 0) refl) in
     omega (arith, ints, one, rest)
 
-zeros_up : (f : ℕ → ℕ → ℤ) (g c m : ℕ) → m ≤ c → IsUp m f g c (λ k. pos 0)
+zeros_up : (f : ℕ → ℕ → ℤ) (g c m : ℕ) → m ≤ c → IsForwardSolution m f g c (λ k. pos 0)
 zeros_up f g c m le = record {
   rows = λ i row. sym (ratio_zero _ (f i i) (left_zero f g c i (omega arith)));
   left_fits = λ i row. omega (arith, ap unsigned_abs (left_zero f g c i (omega arith)));
   fits = λ i row. omega arith;
 }
 
-pub cleared_up : (f : ℕ → ℕ → ℤ) (g c : ℕ) (u : ℕ → ℤ) → ((k : ℕ) → k < c → u k ≡ pos 0) → IsUp c f g c u
+pub cleared_up : (f : ℕ → ℕ → ℤ) (g c : ℕ) (u : ℕ → ℤ) → ((k : ℕ) → k < c → u k ≡ pos 0) → IsForwardSolution c f g c u
 cleared_up f g c u zeros = up_same f f g c (λ k. pos 0) u c c (omega arith) (same_lower c f) (λ k l. sym (zeros k l)) (zeros_up f g c c (omega arith))
 
-pub up_zero : (i : ℕ) (f : ℕ → ℕ → ℤ) (g c : ℕ) (u : ℕ → ℤ) → c ≤ i → IsUp i f g c u → (k : ℕ) → k < c → u k ≡ pos 0
+pub up_zero : (i : ℕ) (f : ℕ → ℕ → ℤ) (g c : ℕ) (u : ℕ → ℤ) → c ≤ i → IsForwardSolution i f g c u → (k : ℕ) → k < c → u k ≡ pos 0
 up_zero i f g c u le up = up_alone c f g c u (λ k. pos 0) (up_fewer f g c u i c le up) (zeros_up f g c c (omega arith))
 
 -- ---- sums over slices
 slice_len : (xs : List ℤ) (a m : ℕ) → a + m ≤ length xs → length (take m (drop a xs)) ≡ m
 slice_len xs a m le = simp (length-take, length-drop) (omega arith)
 
-pub earlier_is : (n i : ℕ) (f : ℕ → ℕ → ℤ) (g c : ℕ) (us row : List ℤ) (s : ℤ) → IsUpBefore n i f g c us → length row ≡ n → ((k : ℕ) → k < n → at row k ≡ f i k)
+pub earlier_is : (n i : ℕ) (f : ℕ → ℕ → ℤ) (g c : ℕ) (us row : List ℤ) (s : ℤ) → IsForwardBefore n i f g c us → length row ≡ n → ((k : ℕ) → k < n → at row k ≡ f i k)
     → s ≡ sum_to (length (take (i - c) (drop c row))) (λ k. fixed_product (at (take (i - c) (drop c row)) k) (at (take (i - c) (drop c us)) k))
     → s ≡ sum_to i (λ k. fixed_product (f i k) (at us k))
 earlier_is n i f g c us row s up len words is =
@@ -77,41 +77,41 @@ later_is n i f ts xs s a m b p t row start count first rest is =
     (λ d l. later_term n i d f ts xs a m b p t row start count first rest (omega arith))
 
 -- ---- what is left
-pub left_here : (f : ℕ → ℕ → ℤ) (g c i : ℕ) (u : ℕ → ℤ) (s : ℤ) → i ≡ c → s ≡ sum_to i (λ k. fixed_product (f i k) (u k)) → up_left f g c u i ≡ pos (2 ^ (g + 10)) -ℤ s
+pub left_here : (f : ℕ → ℕ → ℤ) (g c i : ℕ) (u : ℕ → ℤ) (s : ℤ) → i ≡ c → s ≡ sum_to i (λ k. fixed_product (f i k) (u k)) → forward_left f g c u i ≡ pos (2 ^ (g + 10)) -ℤ s
 left_here f g c i u s e is =
     let one = ap (λ k. unit c (pos (2 ^ (g + 10))) k) e ∙ unit_here c (pos (2 ^ (g + 10))) in
     omega (arith, ints, one, is)
 
-pub left_past : (f : ℕ → ℕ → ℤ) (g c i : ℕ) (u : ℕ → ℤ) (s : ℤ) → i ≢ c → s ≡ sum_to i (λ k. fixed_product (f i k) (u k)) → up_left f g c u i ≡ pos 0 -ℤ s
+pub left_past : (f : ℕ → ℕ → ℤ) (g c i : ℕ) (u : ℕ → ℤ) (s : ℤ) → i ≢ c → s ≡ sum_to i (λ k. fixed_product (f i k) (u k)) → forward_left f g c u i ≡ pos 0 -ℤ s
 left_past f g c i u s ne is =
     let one = unit_other c (pos (2 ^ (g + 10))) i ne in
     omega (arith, ints, one, is)
 
 -- ---- one row more
-pub up_more : (i : ℕ) (f : ℕ → ℕ → ℤ) (g c : ℕ) (us : List ℤ) (w v : ℤ) → i < length us → IsUp i f g c (at us) → QuotientFits (up_left f g c (at us) i) (f i i) (2 ^ 64) → w ≡ fixed_quotient (up_left f g c (at us) i) (f i i) → v ≡ w → IsUp (i + 1) f g c (at (slice_set us i v))
+pub up_more : (i : ℕ) (f : ℕ → ℕ → ℤ) (g c : ℕ) (us : List ℤ) (w v : ℤ) → i < length us → IsForwardSolution i f g c (at us) → QuotientFits (forward_left f g c (at us) i) (f i i) (2 ^ 64) → w ≡ fixed_quotient (forward_left f g c (at us) i) (f i i) → v ≡ w → IsForwardSolution (i + 1) f g c (at (slice_set us i v))
 up_more i f g c us w v row before fits is same =
     let earlier : SameBelow i (at us) (at (slice_set us i v)) = λ k l. sym (get_or-set_other us i k v (pos 0) (omega arith)) in
     let so_far = up_same f f g c (at us) (at (slice_set us i v)) i i (omega arith) (same_lower i f) earlier before in
     let left = up_left_same f f g c (at us) (at (slice_set us i v)) (i + 1) i (omega arith) (same_lower (i + 1) f) earlier in
-    let here : at (slice_set us i v) i ≡ fixed_quotient (up_left f g c (at us) i) (f i i) = get_or-set_same us i v (pos 0) row ∙ same ∙ is in
+    let here : at (slice_set us i v) i ≡ fixed_quotient (forward_left f g c (at us) i) (f i i) = get_or-set_same us i v (pos 0) row ∙ same ∙ is in
     record {
-      rows = λ k l. last_or_less (λ k. at (slice_set us i v) k ≡ fixed_quotient (up_left f g c (at (slice_set us i v)) k) (f k k)) i k l so_far.rows (here ∙ ap (λ z. fixed_quotient z (f i i)) left);
-      left_fits = λ k l. last_or_less (λ k. unsigned_abs (up_left f g c (at (slice_set us i v)) k) ≤ 2 ^ 66) i k l so_far.left_fits (subst (λ z. unsigned_abs z ≤ 2 ^ 66) left fits.left_fits);
+      rows = λ k l. last_or_less (λ k. at (slice_set us i v) k ≡ fixed_quotient (forward_left f g c (at (slice_set us i v)) k) (f k k)) i k l so_far.rows (here ∙ ap (λ z. fixed_quotient z (f i i)) left);
+      left_fits = λ k l. last_or_less (λ k. unsigned_abs (forward_left f g c (at (slice_set us i v)) k) ≤ 2 ^ 66) i k l so_far.left_fits (subst (λ z. unsigned_abs z ≤ 2 ^ 66) left fits.left_fits);
       fits = λ k l. last_or_less (λ k. unsigned_abs (at (slice_set us i v) k) ≤ 2 ^ 64) i k l so_far.fits (subst (λ z. unsigned_abs z ≤ 2 ^ 64) (sym here) fits.fits);
     }
   where
     last_or_less : (P : ℕ → Type 0) (m k : ℕ) → k < m + 1 → ((j : ℕ) → j < m → P j) → P m → P k
     last_or_less P m k l earlier here = below_more P m earlier here k l
 
-pub down_more : (n i : ℕ) (f : ℕ → ℕ → ℤ) (u : ℕ → ℤ) (xs : List ℤ) (w v : ℤ) → i < length xs → i < n → IsDownFrom n (suc i) f u (at xs) → QuotientFits (down_left n f u (at xs) i) (f i i) (2 ^ 60) → w ≡ fixed_quotient (down_left n f u (at xs) i) (f i i) → v ≡ w → IsDownFrom n i f u (at (slice_set xs i v))
+pub down_more : (n i : ℕ) (f : ℕ → ℕ → ℤ) (u : ℕ → ℤ) (xs : List ℤ) (w v : ℤ) → i < length xs → i < n → IsBackFrom n (suc i) f u (at xs) → QuotientFits (back_left n f u (at xs) i) (f i i) (2 ^ 60) → w ≡ fixed_quotient (back_left n f u (at xs) i) (f i i) → v ≡ w → IsBackFrom n i f u (at (slice_set xs i v))
 down_more n i f u xs w v inside row before fits is same =
     let later : SameFrom n (suc i) (at xs) (at (slice_set xs i v)) = λ k from l. sym (get_or-set_other xs i k v (pos 0) (omega arith)) in
     let so_far = down_same f f u u (at xs) (at (slice_set xs i v)) n (suc i) (same_lower n f) (same_below n u) later before in
     let left = down_left_same f f u u (at xs) (at (slice_set xs i v)) n i row (same_lower n f) (same_below n u) later in
-    let here : at (slice_set xs i v) i ≡ fixed_quotient (down_left n f u (at xs) i) (f i i) = get_or-set_same xs i v (pos 0) inside ∙ same ∙ is in
+    let here : at (slice_set xs i v) i ≡ fixed_quotient (back_left n f u (at xs) i) (f i i) = get_or-set_same xs i v (pos 0) inside ∙ same ∙ is in
     record {
-      rows = λ k from l. first_or_more (λ k. at (slice_set xs i v) k ≡ fixed_quotient (down_left n f u (at (slice_set xs i v)) k) (f k k)) i n k from l so_far.rows (here ∙ ap (λ z. fixed_quotient z (f i i)) left);
-      left_fits = λ k from l. first_or_more (λ k. unsigned_abs (down_left n f u (at (slice_set xs i v)) k) ≤ 2 ^ 66) i n k from l so_far.left_fits (subst (λ z. unsigned_abs z ≤ 2 ^ 66) left fits.left_fits);
+      rows = λ k from l. first_or_more (λ k. at (slice_set xs i v) k ≡ fixed_quotient (back_left n f u (at (slice_set xs i v)) k) (f k k)) i n k from l so_far.rows (here ∙ ap (λ z. fixed_quotient z (f i i)) left);
+      left_fits = λ k from l. first_or_more (λ k. unsigned_abs (back_left n f u (at (slice_set xs i v)) k) ≤ 2 ^ 66) i n k from l so_far.left_fits (subst (λ z. unsigned_abs z ≤ 2 ^ 66) left fits.left_fits);
       fits = λ k from l. first_or_more (λ k. unsigned_abs (at (slice_set xs i v) k) ≤ 2 ^ 60) i n k from l so_far.fits (subst (λ z. unsigned_abs z ≤ 2 ^ 60) (sym here) fits.fits);
     }
   where

@@ -1,10 +1,9 @@
 -- Columns written into a table that is kept row by row.
 use Rattle.std.proofs.Common.{◌≡◌, ◌≢◌, ◌≤◌, ◌<◌, ◌+◌, ◌*◌, ◌^◌, ◌∙◌, ℕ, ℤ, pos, List, length, slice_set, arith, sym, subst, unsigned_abs, below_more}
-use Rattle.std.proofs.Math.Decide.{ℕ_discrete}
-use Rattle.std.proofs.lemmas.List.{get_or-set_same, get_or-set_other, length-set}
-use Rattle.std.proofs.lemmas.Grind.{get_or-set_at}
+use Rattle.std.proofs.lemmas.List.{get_or-set_same, get_or-set_other}
 use Rattle.std.proofs.lemmas.Nat.{mul-add-lt, same_from_place}
 use Rattle.whole_numbers.specs.Lists.{at, grid, AllAtMost}
+use Rattle.whole_numbers.proofs.SquareLaws.{small_set}
 use Rattle.chol_guess.specs.Rows.{IsColumnWritten}
 
 -- so far as the rows before row m
@@ -12,14 +11,6 @@ pub record IsWrittenTo (m n c : ℕ) (xs old new : List ℤ) : Type 0 where
   pub here : (i : ℕ) → i < m → grid n new i c ≡ at xs i
   pub others : (i k : ℕ) → i < n → k < n → k ≢ c → grid n new i k ≡ grid n old i k
   pub small : (a : ℕ) → AllAtMost a xs → AllAtMost a old → AllAtMost a new
-
-small_set : (a : ℕ) (ws : List ℤ) (p : ℕ) (v : ℤ) → AllAtMost a ws → unsigned_abs v ≤ a → AllAtMost a (slice_set ws p v)
-small_set a ws p v small here k h =
-    let inside : k < length ws = omega (arith, length-set ws p v) in
-    elim (ℕ_discrete k p) [
-      | yes e ↦ subst (λ z. unsigned_abs z ≤ a) (sym (get_or-set_at ws p k v (pos 0) e (subst (λ j. j < length ws) e inside))) here
-      | no apart ↦ subst (λ z. unsigned_abs z ≤ a) (sym (get_or-set_other ws p k v (pos 0) apart)) (small k inside)
-    ]
 
 pub written_more : (m n c : ℕ) (xs old ws : List ℤ) (v : ℤ) → length ws ≡ n * n → length xs ≡ n → m < n → c < n → v ≡ at xs m → IsWrittenTo m n c xs old ws → IsWrittenTo (m + 1) n c xs old (slice_set ws (m * n + c) v)
 written_more m n c xs old ws v square len row column is w =

@@ -1,8 +1,9 @@
--- Columns as far as they are made, and the lists that they are read from and written to.
+-- Columns as far as they are made, and the lists that they are read from and written to. Private functions speak of these;
+-- the scales at the end, from KeepsColumns on, are also those of Made.
 use Rattle.std.specs.Prelude.{◌≡◌, ◌≢◌, ◌≤◌, ◌<◌, ◌*◌, ◌^◌, ℕ, suc, ℤ, List, length, unsigned_abs}
 use Rattle.chol_factor.specs.Factor.{fixed_quotient}
 use Rattle.whole_numbers.specs.Lists.{at, grid, AllAtMost}
-use Rattle.chol_guess.specs.Columns.{down_left, IsUp, IsInverseColumn, StayInBounds}
+use Rattle.chol_guess.specs.Columns.{back_left, IsForwardSolution, IsInverseColumn, StayInBounds}
 use Rattle.chol_guess.specs.Pilots.{nearest}
 use Rattle.enclosures.specs.Pilots.{IsPilotScale}
 
@@ -18,32 +19,32 @@ pub record QuotientFits (left diagonal : ℤ) (limit : ℕ) : Type 0 where
   pub left_fits : unsigned_abs left ≤ 2 ^ 66
   pub fits : unsigned_abs (fixed_quotient left diagonal) ≤ limit
 
--- going down, as far as the rows from row m on
-pub record IsDownFrom (n m : ℕ) (f : ℕ → ℕ → ℤ) (u x : ℕ → ℤ) : Type 0 where
-  pub rows : (i : ℕ) → m ≤ i → i < n → x i ≡ fixed_quotient (down_left n f u x i) (f i i)
-  pub left_fits : (i : ℕ) → m ≤ i → i < n → unsigned_abs (down_left n f u x i) ≤ 2 ^ 66
+-- back substitution, as far as the rows from row m on
+pub record IsBackFrom (n m : ℕ) (f : ℕ → ℕ → ℤ) (u x : ℕ → ℤ) : Type 0 where
+  pub rows : (i : ℕ) → m ≤ i → i < n → x i ≡ fixed_quotient (back_left n f u x i) (f i i)
+  pub left_fits : (i : ℕ) → m ≤ i → i < n → unsigned_abs (back_left n f u x i) ≤ 2 ^ 66
   pub fits : (i : ℕ) → m ≤ i → i < n → unsigned_abs (x i) ≤ 2 ^ 60
 
--- the numbers before row i of column c at the scale g stand in us, going up
-pub record IsUpBefore (n i : ℕ) (f : ℕ → ℕ → ℤ) (g c : ℕ) (us : List ℤ) : Type 0 where
+-- forward substitution of column c at the scale g stands in us before row i
+pub record IsForwardBefore (n i : ℕ) (f : ℕ → ℕ → ℤ) (g c : ℕ) (us : List ℤ) : Type 0 where
   pub few : n ≤ 1000
   pub scale : g ≤ 50
   pub row : i < n
   pub column : c ≤ i
   pub len : length us ≡ n
-  pub before : IsUp i f g c (at us)
+  pub before : IsForwardSolution i f g c (at us)
 
--- going down starts from us, whose table has the transpose t
-pub record IsDownStart (n : ℕ) (f : ℕ → ℕ → ℤ) (t us : List ℤ) : Type 0 where
+-- back substitution starts from us, by the transpose t
+pub record IsBackStart (n : ℕ) (f : ℕ → ℕ → ℤ) (t us : List ℤ) : Type 0 where
   pub transposed : IsTransposed n f t
   pub len : length us ≡ n
   pub small : AllAtMost (2 ^ 64) us
 
--- the numbers past row i stand in xs, going down from us
-pub record IsDownAfter (n i : ℕ) (f : ℕ → ℕ → ℤ) (us xs : List ℤ) : Type 0 where
+-- back substitution of us stands in xs past row i
+pub record IsBackAfter (n i : ℕ) (f : ℕ → ℕ → ℤ) (us xs : List ℤ) : Type 0 where
   pub row : i < n
   pub len : length xs ≡ n
-  pub after : IsDownFrom n (suc i) f (at us) (at xs)
+  pub after : IsBackFrom n (suc i) f (at us) (at xs)
 
 -- column c is xs, and the others are as before
 pub record IsColumnWritten (n c : ℕ) (xs old new : List ℤ) : Type 0 where
@@ -51,7 +52,7 @@ pub record IsColumnWritten (n c : ℕ) (xs old new : List ℤ) : Type 0 where
   pub others : (i k : ℕ) → i < n → k < n → k ≢ c → grid n new i k ≡ grid n old i k
   pub small : (a : ℕ) → AllAtMost a xs → AllAtMost a old → AllAtMost a new
 
--- there is room for a column of n rows, going up and down, and for the words of n columns
+-- there is room for a column of n rows, in both substitutions, and for the words of n columns
 pub record IsRoom (n : ℕ) (us xs words : List ℤ) : Type 0 where
   pub up : length us ≡ n
   pub down : length xs ≡ n

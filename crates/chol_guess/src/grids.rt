@@ -1,7 +1,7 @@
 //! Square tables kept row by row.
 
 ghost use Rattle.std.specs.Prelude.{◌≡◌, ◌≤◌, ◌<◌, ◌*◌, length, IfOk};
-ghost use Rattle.chol_factor.specs.Factor.{factor_word};
+ghost use Rattle.whole_numbers.specs.Squares.{square_at};
 ghost use Rattle.whole_numbers.specs.Lists.{AllAtMost};
 ghost use Rattle.chol_guess.specs.Rows.{IsTransposed, IsColumnWritten};
 
@@ -33,7 +33,7 @@ pub fn zeros(alloc: Global, n: usize) -> Result<Vec<i64>, AllocError>
 fn write_transpose(t: &mut [i64], f: &Factor)
     requires square { length t.old ≡ f.now.size * f.now.size }
     requires small { AllAtMost 0 t.old }
-    ensures { IsTransposed f.now.size (factor_word f.now) t.new }
+    ensures { IsTransposed f.now.size (square_at f.now) t.new }
 {
     for c in 0..f.size() {
         write_column(t, c, f.row(c));
@@ -42,7 +42,7 @@ fn write_transpose(t: &mut [i64], f: &Factor)
 
 /// The transpose of the factor.
 pub fn transpose(alloc: Global, f: &Factor) -> Result<Vec<i64>, AllocError>
-    ensures { IfOk result (λ t. IsTransposed f.now.size (factor_word f.now) t.items) }
+    ensures { IfOk result (λ t. IsTransposed f.now.size (square_at f.now) t.items) }
 {
     let mut t = zeros(alloc, f.size())?;
     write_transpose(&mut t, f);

@@ -1,23 +1,27 @@
-//! The pilot of a working table: an approximate inverse on whole numbers, by a Cholesky factor and two divisions of each
-//! unit column. What it is good for is decided by the certificate, so nothing is claimed of how near it comes.
+//! The pilot of a working table: an approximate inverse R on whole numbers, by a Cholesky factor and forward and back
+//! substitution of each unit column. What it is good for is decided by the certificate, so nothing is claimed of how near it comes.
 #![tactic(auto)]
 
 ghost use Rattle.std.specs.Prelude.{◌≡◌};
+ghost use Rattle.chol_guess.specs.Refusals.{of_factor};
 ghost use Rattle.chol_guess.specs.declared.PilotError.TheVariants.{Memory};
 
+use chol_factor::FactorError;
 use std::alloc::AllocError;
 use thiserror::Error;
 
 mod columns;
 mod grids;
 mod kernels;
-mod making;
+mod midpoints;
+mod pilots;
 mod scales;
 #[cfg(test)]
 mod tests;
 
 pub use enclosures::Pilot;
-pub use making::{pilot, pilot_of};
+pub use midpoints::midpoint_square;
+pub use pilots::{pilot, pilot_of};
 
 /// Why a table has no pilot.
 #[derive(Clone, Copy, Debug, PartialEq, Eq, Error)]
@@ -31,6 +35,16 @@ pub enum PilotError {
     /// Memory is wanting.
     #[error("out of memory")]
     Memory,
+}
+
+impl From<FactorError> for PilotError {
+    ghost from_gives = { λ e r. r ≡ of_factor e };
+
+    fn from(e: FactorError) -> PilotError {
+        match e {
+            FactorError::Pivot { row } => PilotError::Pivot { row },
+        }
+    }
 }
 
 impl From<AllocError> for PilotError {

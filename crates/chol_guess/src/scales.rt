@@ -2,7 +2,7 @@
 
 ghost use Rattle.std.specs.Prelude.{◌≡◌, ◌≤◌, ◌<◌, ◌^◌, ℕ, ℤ, length, unsigned_abs, IfSome, IfNone, IfOk, IfErr};
 ghost use Rattle.std.specs.Bool.{OnTrue, OnFalse};
-ghost use Rattle.chol_factor.specs.Factor.{factor_word};
+ghost use Rattle.whole_numbers.specs.Squares.{square_at};
 ghost use Rattle.whole_numbers.specs.Lists.{at, AllAtMost};
 ghost use Rattle.chol_guess.specs.Columns.{IsInverseColumn};
 ghost use Rattle.chol_guess.specs.Pilots.{nearest};
@@ -42,14 +42,14 @@ fn place_column(
     x: &mut [i64],
     words: &mut [i64],
 ) -> bool
-    requires transposed { IsTransposed f.now.size (factor_word f.now) t.now }
+    requires transposed { IsTransposed f.now.size (square_at f.now) t.now }
     requires scale { g ≤ 50 }
     requires within { c < f.now.size }
     requires room { IsRoom f.now.size u.old x.old words.old }
-    ensures column { OnTrue result (HasColumn f.now.size (factor_word f.now) g words.new c) }
+    ensures column { OnTrue result (HasColumn f.now.size (square_at f.now) g words.new c) }
     ensures others { KeepsColumns f.now.size c words.old words.new }
     ensures small { AllAtMost (2 ^ 50) words.new }
-    ensures none { OnFalse result ((y : ℕ → ℤ) → ¬ (IsInverseColumn f.now.size (factor_word f.now) g c y)) }
+    ensures none { OnFalse result ((y : ℕ → ℤ) → ¬ (IsInverseColumn f.now.size (square_at f.now) g c y)) }
 {
     if !column(f, t, g, c, u, x) {
         return false;
@@ -68,11 +68,11 @@ fn place_columns(
     x: &mut [i64],
     words: &mut [i64],
 ) -> Option<usize>
-    requires transposed { IsTransposed f.now.size (factor_word f.now) t.now }
+    requires transposed { IsTransposed f.now.size (square_at f.now) t.now }
     requires scale { g ≤ 50 }
     requires room { IsRoom f.now.size u.old x.old words.old }
-    ensures columns { IfNone result (PlacesColumns f.now.size (factor_word f.now) g words.new f.now.size) }
-    ensures first { IfSome result (IsFirstFailing f.now.size (factor_word f.now) g) }
+    ensures columns { IfNone result (PlacesColumns f.now.size (square_at f.now) g words.new f.now.size) }
+    ensures first { IfSome result (IsFirstFailing f.now.size (square_at f.now) g) }
     ensures small { AllAtMost (2 ^ 50) words.new }
 {
     for c in 0..f.size() {
@@ -92,11 +92,11 @@ pub fn greatest_scale(
     x: &mut [i64],
     words: &mut [i64],
 ) -> Result<u32, usize>
-    requires transposed { IsTransposed f.now.size (factor_word f.now) t.now }
+    requires transposed { IsTransposed f.now.size (square_at f.now) t.now }
     requires room { IsRoom f.now.size u.old x.old words.old }
-    ensures scale { IfOk result (λ g. IsGreatestScale f.now.size (factor_word f.now) g words.new) }
+    ensures scale { IfOk result (λ g. IsGreatestScale f.now.size (square_at f.now) g words.new) }
     ensures small { AllAtMost (2 ^ 50) words.new }
-    ensures failure { IfErr result (IsFailure f.now.size (factor_word f.now)) }
+    ensures failure { IfErr result (IsFailure f.now.size (square_at f.now)) }
 {
     let mut g = 50;
     'scales: loop {

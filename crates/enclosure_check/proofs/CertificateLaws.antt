@@ -1,18 +1,19 @@
 -- The greatest of a list, and what the numbers of a certificate say.
-use Rattle.std.proofs.Common.{◌≡◌, ◌∙◌, ◌≤◌, ◌<◌, ◌+◌, ◌*◌, ◌^◌, ℕ, zero, suc, ℤ, max, slice_index, slice_index_or, List, length, ap, refl, sym, subst, arith, add-one}
+use Rattle.std.proofs.Common.{◌≡◌, ◌∙◌, ◌≤◌, ◌<◌, ◌+◌, ◌*◌, ◌^◌, ℕ, zero, suc, ℤ, max, slice_index, List, length, ap, refl, sym, subst, arith, add-one}
 use Rattle.std.proofs.Math.Decide.{dec_lt}
 use Rattle.whole_numbers.specs.Quotients.{up_over}
 use Rattle.whole_numbers.specs.Intervals.{Holds}
 use Rattle.sys_model.specs.Systems.{Table, Encloses, around, rho, radius}
 use Rattle.sys_model.proofs.Exist.{encloses}
 use Rattle.enclosures.specs.Pilots.{PilotTable, pilot_word}
+use Rattle.enclosures.specs.Radii.{radius_at}
 use Rattle.enclosure_check.specs.declared.CheckError.{CheckError}
 use Rattle.enclosure_check.specs.declared.CheckError.TheVariants.{Residual, Defect, Memory}
 use Rattle.enclosures.specs.declared.Radius.{Radius}
 use Rattle.enclosure_check.specs.Answers.{IsCheckRefused}
-use Rattle.enclosure_check.specs.CertificateLists.{greatest_of, IsFirstGreatest, HasRadii, IsWhole, IsDefectRefused}
+use Rattle.enclosure_check.specs.CertificateLists.{greatest_of, IsFirstGreatest, HasRadii, IsLarge, IsErrorRefused, IsWhole, IsDefectRefused, IsRefusedOf, Certifies}
 use Rattle.whole_numbers.specs.Lists.{NonePast}
-use Rattle.enclosure_check.specs.Certificates.{parts_of, error_of, IsCertified, IsDefect, AreErrors, AreDefects}
+use Rattle.enclosure_check.specs.Certificates.{parts_of, error_of, IsCertified, IsResidual, IsDefect, AreErrors, AreDefects}
 use Rattle.whole_numbers.specs.Least.{greatest_to}
 
 pub greatest_to_le : (n : ℕ) (f : ℕ → ℕ) (a : ℕ) → ((k : ℕ) → k < n → f k ≤ a) → greatest_to n f ≤ a
@@ -58,14 +59,6 @@ pub record Found (n : ℕ) (t : Table) (p : PilotTable) (y : ℕ → ℤ) (error
   pub are_defects : AreDefects n t p defects
   pub small : NonePast (2 ^ 66) errors
 
--- the same of lists that are read again
-pub found : (n : ℕ) (t : Table) (p : PilotTable) (y : ℕ → ℤ) (errors defects tested listed parts : List ℕ) → tested ≡ errors → listed ≡ errors → parts ≡ defects → AreErrors n t p y errors → AreDefects n t p defects → NonePast (2 ^ 66) tested → Found n t p y listed parts
-found n t p y errors defects tested listed parts a b c e d small = record {
-  are_errors = subst (AreErrors n t p y) (sym b) e;
-  are_defects = subst (AreDefects n t p) (sym c) d;
-  small = subst (NonePast (2 ^ 66)) (a ∙ sym b) small;
-}
-
 pub is_certified : (n : ℕ) (t : Table) (p : PilotTable) (y : ℕ → ℤ) (errors defects : List ℕ) (v : Radius) → Found n t p y errors defects → HasRadii errors defects v → IsCertified n t p y v
 is_certified n t p y errors defects v f r = let e = f.are_errors in let d = f.are_defects in record {
   h = e.h;
@@ -97,10 +90,41 @@ is_defect n t p y errors defects row parts f w =
       past = w.past;
     }
 
-pub refused_by : (n : ℕ) (t : Table) (p : PilotTable) (y : ℕ → ℤ) (errors defects : List ℕ) (r : CheckError) → Found n t p y errors defects → IsDefectRefused defects r → IsCheckRefused n t p y r
-refused_by n t p y errors defects (Residual row size) f w = absurd w
-refused_by n t p y errors defects (Defect row parts) f w = is_defect n t p y errors defects row parts f w
-refused_by n t p y errors defects Memory f w = tt
+is_residual : (n : ℕ) (t : Table) (p : PilotTable) (y : ℕ → ℤ) (errors : List ℕ) (row error : ℕ) → AreErrors n t p y errors → IsLarge errors row error → IsResidual n t p y row error
+is_residual n t p y errors row error e l =
+    let inside : row < n = omega (arith, l.within, e.len) in
+    record {
+      h = e.h;
+      shift = e.shift;
+      within = inside;
+      before = λ i k. omega (arith, l.before i k, e.each i (omega arith));
+      here = sym l.here ∙ e.each row inside;
+      past = l.past;
+    }
+
+-- a refusal of the errors is one of the certificate
+pub error_refused : (n : ℕ) (t : Table) (p : PilotTable) (y : ℕ → ℤ) (errors : List ℕ) (r : CheckError) → AreErrors n t p y errors → IsErrorRefused errors r → IsCheckRefused n t p y r
+error_refused n t p y errors (Residual row size) e l = is_residual n t p y errors row size e l
+error_refused n t p y errors (Defect row parts) e l = absurd l
+error_refused n t p y errors Memory e l = absurd l
+
+-- so is one of the lists of both
+pub lists_refused : (n : ℕ) (t : Table) (p : PilotTable) (y : ℕ → ℤ) (errors defects : List ℕ) (r : CheckError) → AreErrors n t p y errors → AreDefects n t p defects → IsRefusedOf errors defects r → IsCheckRefused n t p y r
+lists_refused n t p y errors defects (Residual row size) e d l = is_residual n t p y errors row size e l
+lists_refused n t p y errors defects (Defect row parts) e d l = is_defect n t p y errors defects row parts (record { are_errors = e; are_defects = d; small = l.0 }) l.1
+lists_refused n t p y errors defects Memory e d l = tt
+
+-- a refusal of the defects, where no error passes its bound, is one of both lists
+pub defect_refused : (errors defects : List ℕ) (r : CheckError) → NonePast (2 ^ 66) errors → IsDefectRefused defects r → IsRefusedOf errors defects r
+defect_refused errors defects (Residual row size) small l = absurd l
+defect_refused errors defects (Defect row parts) small l = (small, l)
+defect_refused errors defects Memory small l = tt
+
+-- an error alone refuses both lists
+pub large_refused : (errors defects : List ℕ) (r : CheckError) → IsErrorRefused errors r → IsRefusedOf errors defects r
+large_refused errors defects (Residual row size) l = l
+large_refused errors defects (Defect row parts) l = absurd l
+large_refused errors defects Memory l = absurd l
 
 -- ---- the law
 -- radii that are the same on the rows enclose the same
@@ -111,9 +135,9 @@ same_radii n t y w u same e = record {
   solvable = e.solvable;
 }
 
-certified_encloses : (n : ℕ) (t : Table) (p : PilotTable) (y : ℕ → ℤ) (v : Radius) (c : IsCertified n t p y v) → c.h ≤ 60 → Encloses n t y (λ i. slice_index_or v.w.items i 0)
+certified_encloses : (n : ℕ) (t : Table) (p : PilotTable) (y : ℕ → ℤ) (v : Radius) (c : IsCertified n t p y v) → c.h ≤ 60 → Encloses n t y (radius_at v)
 certified_encloses n t p y v c few =
-    same_radii n t y (radius n p.g c.h (pilot_word p) t y v.b v.m) (λ i. slice_index_or v.w.items i 0) c.radii
+    same_radii n t y (radius n p.g c.h (pilot_word p) t y v.b v.m) (radius_at v) c.radii
     (encloses n p.g c.h (pilot_word p) t y v.b v.m (record {
       shift = few;
       parts = λ i l. omega (arith, c.parts, le-greatest_to n (parts_of n t p) i l);
@@ -121,6 +145,7 @@ certified_encloses n t p y v c few =
       below = c.parts_fit;
     }))
 
-pub encloses_found : (n : ℕ) (t : Table) (p : PilotTable) (y : ℕ → ℤ) (errors defects : List ℕ) (v : Radius) → Found n t p y errors defects → HasRadii errors defects v → Encloses n t y (λ i. slice_index_or v.w.items i 0)
-unfolding is_certified
-encloses_found n t p y errors defects v f r = certified_encloses n t p y v (is_certified n t p y errors defects v f r) f.are_errors.few
+pub certifies : (errors defects : List ℕ) (v : Radius) → NonePast (2 ^ 66) errors → HasRadii errors defects v → Certifies errors defects v
+certifies errors defects v small r n t p y e d =
+    let c = is_certified n t p y errors defects v (record { are_errors = e; are_defects = d; small = small }) r in
+    (c, certified_encloses n t p y v c (unfold is_certified in e.few))

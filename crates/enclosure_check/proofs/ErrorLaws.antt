@@ -12,7 +12,7 @@ use Rattle.whole_numbers.specs.Lists.{at}
 use Rattle.sys_model.specs.Systems.{Table, residual_interval}
 use Rattle.enclosures.specs.Pilots.{PilotTable, pilot_word}
 use Rattle.enclosure_check.specs.Certificates.{AreErrors, LeftFitsAfter}
-use Rattle.enclosure_check.specs.ErrorParts.{IsVector, IsRowByWords, AreLeft, AreShifted, AreShiftedLeft, AreShiftedErrors, FitAfter, taken_interval, part_interval, shifted_error, word_at}
+use Rattle.enclosure_check.specs.ErrorParts.{IsVector, IsRowByWords, AreResiduals, AreShifted, AreShiftedResiduals, AreShiftedErrors, FitAfter, taken_interval, part_interval, shifted_error, word_at}
 use Rattle.stated_order.specs.First.{IsLeast}
 
 -- ---- sums of words
@@ -76,7 +76,7 @@ pub least_same : (P Q : ℕ → Type 0) (h : ℕ) → ((k : ℕ) → P k → Q k
 least_same P Q h to back l = record { here = to h l.here; before = λ k s q. l.before k s (back k q) }
 
 -- the pilot may be multiplied with the shifted words
-pub left_shifted : (n : ℕ) (t : Table) (y : ℕ → ℤ) (ws vs : List Interval) (h : ℕ) → n ≤ 1000 → AreLeft n t y ws → IsLeast (FitAfter ws) h → AreShifted h ws vs → AreShiftedLeft n vs
+pub left_shifted : (n : ℕ) (t : Table) (y : ℕ → ℤ) (ws vs : List Interval) (h : ℕ) → n ≤ 1000 → AreResiduals n t y ws → IsLeast (FitAfter ws) h → AreShifted h ws vs → AreShiftedResiduals n vs
 left_shifted n t y ws vs h few left least shifted = record {
   len = omega (arith, left.len, shifted.len);
   few = few;
@@ -84,14 +84,14 @@ left_shifted n t y ws vs h few left least shifted = record {
 }
 
 -- what fits of the list fits of the definition, and the other way round
-fits_left : (n : ℕ) (t : Table) (y : ℕ → ℤ) (ws : List Interval) → AreLeft n t y ws → (h : ℕ) → FitAfter ws h → LeftFitsAfter n t y h
+fits_left : (n : ℕ) (t : Table) (y : ℕ → ℤ) (ws : List Interval) → AreResiduals n t y ws → (h : ℕ) → FitAfter ws h → LeftFitsAfter n t y h
 fits_left n t y ws left h fits i row = subst (λ w. size (interval_shift h w) ≤ 2 ^ 66) (left.each i row) (fits i (omega (arith, left.len)))
 
-fits_back : (n : ℕ) (t : Table) (y : ℕ → ℤ) (ws : List Interval) → AreLeft n t y ws → (h : ℕ) → LeftFitsAfter n t y h → FitAfter ws h
+fits_back : (n : ℕ) (t : Table) (y : ℕ → ℤ) (ws : List Interval) → AreResiduals n t y ws → (h : ℕ) → LeftFitsAfter n t y h → FitAfter ws h
 fits_back n t y ws left h fits k inside = let row : k < n = omega (arith, left.len) in subst (λ w. size (interval_shift h w) ≤ 2 ^ 66) (sym (left.each k row)) (fits k row)
 
 -- the errors of the shifted words are those of the definition
-pub errors_are : (n : ℕ) (t : Table) (y : ℕ → ℤ) (p : PilotTable) (ws vs : List Interval) (h : ℕ) → p.size ≡ n → h ≤ 60 → AreLeft n t y ws → IsLeast (FitAfter ws) h → AreShifted h ws vs
+pub errors_are : (n : ℕ) (t : Table) (y : ℕ → ℤ) (p : PilotTable) (ws vs : List Interval) (h : ℕ) → p.size ≡ n → h ≤ 60 → AreResiduals n t y ws → IsLeast (FitAfter ws) h → AreShifted h ws vs
     → (errors : List ℕ) → AreShiftedErrors p vs h errors → AreErrors n t p y errors
 errors_are n t y p ws vs h size_is few left least shifted errors are = record {
   h = h;

@@ -15,7 +15,7 @@ use Rattle.whole_numbers.specs.Lists.{at}
 use Rattle.enclosures.specs.Pilots.{PilotTable, pilot_word}
 use Rattle.enclosure_check.specs.Answers.{IsVectorRefused}
 use Rattle.enclosure_check.specs.ErrorParts.{IsVector}
-use Rattle.enclosure_check.specs.VectorParts.{taken_midpoint, part_number, change_at, moved_at, AreMiddlesLeft, AreFloors, IsRowByNumbers, AreShiftedNumbers, AreSmallNumbers, IsPassed, IsTurned, IsTurnRefused}
+use Rattle.enclosure_check.specs.VectorParts.{taken_midpoint, part_number, correction_at, corrected_at, AreMidpointResiduals, AreFloors, IsRowByNumbers, AreShiftedNumbers, AreSmallNumbers, IsPassed, IsRefined, IsRefinementRefused}
 use Rattle.enclosure_check.specs.declared.VectorError.{VectorError}
 use Rattle.enclosure_check.specs.declared.VectorError.TheVariants.{Range, Memory}
 use Rattle.enclosure_check.specs.Vectors.{IsTurn, AfterTurns, IsStartVector, AllFitAfter, midpoint_residual, moved}
@@ -72,7 +72,7 @@ pub change_small : (b v : ℤ) (m : ℕ) → unsigned_abs b ≤ 2 ^ 126 → v �
 change_small b v m h e = let q = quotient_small b (2 ^ m) (two_pow_above m) in omega (arith, ap unsigned_abs e, q)
 
 -- the floor of the row's sum is the change
-pub change_is : (p : PilotTable) (r vs : List ℤ) (h i g : ℕ) (b v : ℤ) → length vs ≡ p.size → ((k : ℕ) → k < p.size → at r k ≡ pilot_word p i k) → b ≡ sum_to (length vs) (part_number r vs) → g ≡ p.g → v ≡ floor_over b (2 ^ (g + 60 - h)) → v ≡ change_at p vs h i
+pub change_is : (p : PilotTable) (r vs : List ℤ) (h i g : ℕ) (b v : ℤ) → length vs ≡ p.size → ((k : ℕ) → k < p.size → at r k ≡ pilot_word p i k) → b ≡ sum_to (length vs) (part_number r vs) → g ≡ p.g → v ≡ floor_over b (2 ^ (g + 60 - h)) → v ≡ correction_at p vs h i
 change_is p r vs h i g b v len row is scale floor =
     let same = sum_to_same p.size (part_number r vs) (λ k. pilot_word p i k *ℤ at vs k) (λ k l. ap (λ x. x *ℤ at vs k) (row k l)) in
     let sum = is ∙ ap (λ n. sum_to n (part_number r vs)) len ∙ same in
@@ -86,7 +86,7 @@ small_same n f g h s = omega (arith, s, total_to_same n (λ k. unsigned_abs (f k
 -- what the rows of a turn are made of
 pub record IsMade (n : ℕ) (t : Table) (p : PilotTable) (y : List ℤ) (qs vs : List ℤ) (h : ℕ) : Type 0 where
   pub size : p.size ≡ n
-  pub left : AreMiddlesLeft n t (at y) qs
+  pub left : AreMidpointResiduals n t (at y) qs
   pub least : IsLeast (AllFitAfter (length qs) (at qs)) h
   pub floors : AreFloors h qs vs
 
@@ -99,21 +99,21 @@ made_numbers n t p y qs vs h few m = record {
 }
 
 -- a number made of the lists is that of the turn
-moved_same : (n : ℕ) (t : Table) (p : PilotTable) (y qs vs : List ℤ) (h : ℕ) → IsMade n t p y qs vs h → (i : ℕ) → moved_at p y vs h i ≡ moved n p (midpoint_residual n t (at y)) h (at y) i
+moved_same : (n : ℕ) (t : Table) (p : PilotTable) (y qs vs : List ℤ) (h : ℕ) → IsMade n t p y qs vs h → (i : ℕ) → corrected_at p y vs h i ≡ moved n p (midpoint_residual n t (at y)) h (at y) i
 moved_same n t p y qs vs h m i =
     let same = sum_to_same n (λ k. pilot_word p i k *ℤ at vs k) (λ k. pilot_word p i k *ℤ floor_over (midpoint_residual n t (at y) k) (2 ^ h))
     (λ k l. ap (λ x. pilot_word p i k *ℤ x) (m.floors.each k (omega (arith, m.left.len)) ∙ ap (λ x. floor_over x (2 ^ h)) (m.left.each k l))) in
     ap (λ s. at y i +ℤ floor_over (sum_to s (λ k. pilot_word p i k *ℤ at vs k)) (2 ^ (p.g + 60 - h))) m.size ∙ ap (λ x. at y i +ℤ floor_over x (2 ^ (p.g + 60 - h))) same
 
 -- what fits of the list fits of the definition, and the other way round
-fits_left : (n : ℕ) (t : Table) (y : ℕ → ℤ) (qs : List ℤ) → AreMiddlesLeft n t y qs → (h : ℕ) → AllFitAfter (length qs) (at qs) h → AllFitAfter n (midpoint_residual n t y) h
+fits_left : (n : ℕ) (t : Table) (y : ℕ → ℤ) (qs : List ℤ) → AreMidpointResiduals n t y qs → (h : ℕ) → AllFitAfter (length qs) (at qs) h → AllFitAfter n (midpoint_residual n t y) h
 fits_left n t y qs left h fits i row = subst (λ q. unsigned_abs (floor_over q (2 ^ h)) ≤ 2 ^ 66) (left.each i row) (fits i (omega (arith, left.len)))
 
-fits_back : (n : ℕ) (t : Table) (y : ℕ → ℤ) (qs : List ℤ) → AreMiddlesLeft n t y qs → (h : ℕ) → AllFitAfter n (midpoint_residual n t y) h → AllFitAfter (length qs) (at qs) h
+fits_back : (n : ℕ) (t : Table) (y : ℕ → ℤ) (qs : List ℤ) → AreMidpointResiduals n t y qs → (h : ℕ) → AllFitAfter n (midpoint_residual n t y) h → AllFitAfter (length qs) (at qs) h
 fits_back n t y qs left h fits k inside = let row : k < n = omega (arith, left.len) in subst (λ q. unsigned_abs (floor_over q (2 ^ h)) ≤ 2 ^ 66) (sym (left.each k row)) (fits k row)
 
 -- numbers that are those that the pilot gives are one turn away
-made_turn : (n : ℕ) (t : Table) (p : PilotTable) (y qs vs : List ℤ) (h : ℕ) → IsMade n t p y qs vs h → (z : ℕ → ℤ) → ((i : ℕ) → i < n → z i ≡ moved_at p y vs h i) → IsTurn n t p (at y) z
+made_turn : (n : ℕ) (t : Table) (p : PilotTable) (y qs vs : List ℤ) (h : ℕ) → IsMade n t p y qs vs h → (z : ℕ → ℤ) → ((i : ℕ) → i < n → z i ≡ corrected_at p y vs h i) → IsTurn n t p (at y) z
 made_turn n t p y qs vs h m z is = record {
   h = h;
   shift = least_same (AllFitAfter (length qs) (at qs)) (AllFitAfter n (midpoint_residual n t (at y))) h (fits_left n t (at y) qs m.left) (fits_back n t (at y) qs m.left) m.least;
@@ -121,21 +121,21 @@ made_turn n t p y qs vs h m z is = record {
 }
 
 -- their sizes are as small as those of the turn
-made_vector : (n : ℕ) (t : Table) (p : PilotTable) (y qs vs : List ℤ) (h : ℕ) → IsMade n t p y qs vs h → (zs : List ℤ) → AreSmallNumbers p.size (moved_at p y vs h) zs → IsVector n zs
+made_vector : (n : ℕ) (t : Table) (p : PilotTable) (y qs vs : List ℤ) (h : ℕ) → IsMade n t p y qs vs h → (zs : List ℤ) → AreSmallNumbers p.size (corrected_at p y vs h) zs → IsVector n zs
 made_vector n t p y qs vs h m zs are =
-    let whole : IsVector p.size zs = record { len = are.len; small = small_same p.size (moved_at p y vs h) (at zs) (λ k l. sym (are.each k l)) are.small } in
+    let whole : IsVector p.size zs = record { len = are.len; small = small_same p.size (corrected_at p y vs h) (at zs) (λ k l. sym (are.each k l)) are.small } in
     subst (λ s. IsVector s zs) m.size whole
 
 -- what `moved` answers is what `turn` answers
-pub made_turned : (n : ℕ) (t : Table) (p : PilotTable) (y qs vs : List ℤ) (h : ℕ) → IsMade n t p y qs vs h → (zs : List ℤ) → AreSmallNumbers p.size (moved_at p y vs h) zs → IsTurned n t p (at y) zs
+pub made_turned : (n : ℕ) (t : Table) (p : PilotTable) (y qs vs : List ℤ) (h : ℕ) → IsMade n t p y qs vs h → (zs : List ℤ) → AreSmallNumbers p.size (corrected_at p y vs h) zs → IsRefined n t p (at y) zs
 made_turned n t p y qs vs h m zs are = record {
   vector = made_vector n t p y qs vs h m zs are;
   turn = made_turn n t p y qs vs h m (at zs) (λ i row. are.each i (omega (arith, m.size)));
 }
 
-pub made_refused : (n : ℕ) (t : Table) (p : PilotTable) (y qs vs : List ℤ) (h : ℕ) → IsMade n t p y qs vs h → (e : VectorError) → IsPassed p.size (moved_at p y vs h) e → IsTurnRefused n t p (at y) e
+pub made_refused : (n : ℕ) (t : Table) (p : PilotTable) (y qs vs : List ℤ) (h : ℕ) → IsMade n t p y qs vs h → (e : VectorError) → IsPassed p.size (corrected_at p y vs h) e → IsRefinementRefused n t p (at y) e
 made_refused n t p y qs vs h m (Range row) passed =
-    let z = moved_at p y vs h in
+    let z = corrected_at p y vs h in
     (z, (made_turn n t p y qs vs h m z (λ i l. refl), record { within = omega (arith, m.size, passed.within); before = passed.before; past = passed.past }))
 made_refused n t p y qs vs h m Memory passed = passed
 
@@ -158,7 +158,7 @@ pub zeros_after : (n : ℕ) (t : Table) (p : PilotTable) (ys : List ℤ) → ys 
 zeros_after n t p ys e = record { vector = zeros_small n ys e; turns = zeros_each n ys e }
 
 -- one turn more
-pub turned_after : (n : ℕ) (t : Table) (p : PilotTable) (k : ℕ) (ys zs : List ℤ) → IsVectorAfter n t p k ys → IsTurned n t p (at ys) zs → IsVectorAfter n t p (k + 1) zs
+pub turned_after : (n : ℕ) (t : Table) (p : PilotTable) (k : ℕ) (ys zs : List ℤ) → IsVectorAfter n t p k ys → IsRefined n t p (at ys) zs → IsVectorAfter n t p (k + 1) zs
 turned_after n t p k ys zs v turned = rw add-one (record { vector = turned.vector; turns = (at ys, (v.turns, (v.vector.small, turned.turn))) })
 
 -- after three turns it is the start vector
@@ -166,7 +166,7 @@ pub start_after : (n : ℕ) (t : Table) (p : PilotTable) (k : ℕ) (ys : List �
 start_after n t p k ys e v = record { turns = subst (λ m. AfterTurns n t p m (at ys)) e v.turns; small = v.vector.small }
 
 -- a refusal of the next turn is one of the start vector
-pub refused_after : (n : ℕ) (t : Table) (p : PilotTable) (k : ℕ) (ys : List ℤ) → k < 3 → IsVectorAfter n t p k ys → (e : VectorError) → IsTurnRefused n t p (at ys) e → IsVectorRefused n t p e
+pub refused_after : (n : ℕ) (t : Table) (p : PilotTable) (k : ℕ) (ys : List ℤ) → k < 3 → IsVectorAfter n t p k ys → (e : VectorError) → IsRefinementRefused n t p (at ys) e → IsVectorRefused n t p e
 refused_after n t p k ys few v (Range row) r = record {
   turn = suc k;
   some = omega arith;

@@ -1,5 +1,5 @@
--- The certificate of a pilot at a vector, and where it does not pass.
--- Source: the residual test of Rump 2010; the scales and bounds are this program's own.
+-- The certificate of a pilot, the approximate inverse R, at a vector, and where it does not pass: the residual test, with
+-- scales and bounds of this program's own.
 use Rattle.std.specs.Prelude.{◌≡◌, ◌≤◌, ◌<◌, ◌^◌, ℕ, ℤ, List, length, slice_index_or}
 use Rattle.sys_model.specs.Systems.{Table, residual_interval, row_parts, row_error, radius}
 use Rattle.whole_numbers.specs.Intervals.{size, interval_shift}
@@ -8,15 +8,15 @@ use Rattle.enclosures.specs.declared.Radius.{Radius}
 use Rattle.stated_order.specs.First.{IsLeast}
 use Rattle.whole_numbers.specs.Least.{greatest_to}
 
--- each word that y leaves of the right side is at most 2^66 in size after an outward shift by h
+-- each word of the residual of y is at most 2^66 in size after an outward shift by h
 abbrev pub LeftFitsAfter : ℕ → Table → (ℕ → ℤ) → ℕ → Type 0
 LeftFitsAfter n t y h = (i : ℕ) → i < n → size (interval_shift h (residual_interval n t y i)) ≤ 2 ^ 66
 
--- the defect of row i, in parts of 2^30: what the pilot times the table leaves of the unit table
+-- the defect of row i, in parts of 2^30: what the pilot times the table leaves of the identity
 abbrev pub parts_of : ℕ → Table → PilotTable → ℕ → ℕ
 parts_of n t p i = row_parts n p.g (pilot_word p) t i
 
--- the error of row i: what the pilot makes of what y leaves, shifted by h
+-- the error of row i: what the pilot makes of the residual of y, shifted by h
 abbrev pub error_of : ℕ → Table → PilotTable → (ℕ → ℤ) → ℕ → ℕ → ℕ
 error_of n t p y h i = row_error n p.g h (pilot_word p) t y i
 

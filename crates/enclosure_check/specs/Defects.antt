@@ -1,4 +1,4 @@
--- The sums that the defects of a pilot are made of.
+-- The sums that the defects of a pilot are made of. Private functions alone speak of them.
 use Rattle.std.specs.Prelude.{◌≡◌, ◌≤◌, ◌<◌, ◌+◌, ◌*◌, ◌^◌, ℕ, ℤ, pos, negsuc, ◌*ℤ◌, List, length, min}
 use Rattle.whole_numbers.specs.Sum.{unit}
 use Rattle.whole_numbers.specs.Intervals.{Interval, point_interval, interval_sub, interval_scale, sum_intervals, size}

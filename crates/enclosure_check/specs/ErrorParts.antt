@@ -1,4 +1,4 @@
--- What a vector leaves of the right side and what the pilot makes of it, in lists.
+-- What a vector leaves of the right side and what the pilot makes of it, in lists. Private functions alone speak of these.
 use Rattle.std.specs.Prelude.{◌≡◌, ◌≤◌, ◌<◌, ◌+◌, ◌-◌, ◌^◌, ℕ, ℤ, List, length, slice_index_or}
 use Rattle.whole_numbers.specs.Quotients.{up_over}
 use Rattle.whole_numbers.specs.Intervals.{Interval, interval_scale, interval_shift, sum_intervals, size}
@@ -21,8 +21,8 @@ pub record IsVector (n : ℕ) (y : List ℤ) : Type 0 where
 abbrev pub taken_interval : SymTable → List ℤ → ℕ → ℕ → Interval
 taken_interval a y i j = interval_scale (at y j) (word a i j)
 
--- the words are what y leaves of the right side
-pub record AreLeft (n : ℕ) (t : Table) (y : ℕ → ℤ) (ws : List Interval) : Type 0 where
+-- the words are the residual of y
+pub record AreResiduals (n : ℕ) (t : Table) (y : ℕ → ℤ) (ws : List Interval) : Type 0 where
   pub len : length ws ≡ n
   pub each : (i : ℕ) → i < n → word_at ws i ≡ residual_interval n t y i
   pub small : (i : ℕ) → i < n → size (word_at ws i) ≤ 2 ^ 126
@@ -48,7 +48,7 @@ pub record IsRowByWords (r : List ℤ) (ws : List Interval) : Type 0 where
   pub words_small : (k : ℕ) → k < length ws → size (word_at ws k) ≤ 2 ^ 66
 
 -- n words that the pilot may be multiplied with
-pub record AreShiftedLeft (n : ℕ) (ws : List Interval) : Type 0 where
+pub record AreShiftedResiduals (n : ℕ) (ws : List Interval) : Type 0 where
   pub len : length ws ≡ n
   pub few : n ≤ 1000
   pub small : (k : ℕ) → k < n → size (word_at ws k) ≤ 2 ^ 66

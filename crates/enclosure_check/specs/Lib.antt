@@ -1,8 +1,11 @@
+-- A stranger reads Certificates, Vectors, Answers and Inputs, and CertificateLists for the calls in parts. Defects,
+-- ErrorParts, VectorParts and EnclosureErrors serve private functions alone.
 pub mod Certificates
 pub mod Answers
 pub mod Vectors
 pub mod ErrorParts
 pub mod VectorParts
 pub mod Defects
+pub mod Inputs
 pub mod CertificateLists
 pub mod EnclosureErrors

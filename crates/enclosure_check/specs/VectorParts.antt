@@ -1,4 +1,4 @@
--- What a turn of the start vector is made of, in lists.
+-- What a refinement of the start vector is made of, in lists. Private functions alone speak of these.
 use Rattle.std.specs.Prelude.{◌≡◌, ◌≤◌, ◌<◌, ◌+◌, ◌-◌, ◌^◌, ℕ, suc, ℤ, ◌+ℤ◌, ◌*ℤ◌, ⊤, List, length}
 use Rattle.whole_numbers.specs.Quotients.{floor_over}
 use Rattle.whole_numbers.specs.Sum.{sum_to}
@@ -13,12 +13,12 @@ use Rattle.enclosure_check.specs.declared.VectorError.{VectorError}
 use Rattle.enclosure_check.specs.declared.VectorError.TheVariants.{Range, Memory}
 use Rattle.whole_numbers.specs.Intervals.{midpoint}
 
--- the middle of the word (i, j) times number j of the vector
+-- the midpoint of the word (i, j) times number j of the vector
 abbrev pub taken_midpoint : SymTable → List ℤ → ℕ → ℕ → ℤ
 taken_midpoint a y i j = midpoint (word a i j) *ℤ at y j
 
--- the numbers are what y leaves of the right side, by the middles of the words
-pub record AreMiddlesLeft (n : ℕ) (t : Table) (y : ℕ → ℤ) (qs : List ℤ) : Type 0 where
+-- the numbers are the residual of y, by the midpoints of the words
+pub record AreMidpointResiduals (n : ℕ) (t : Table) (y : ℕ → ℤ) (qs : List ℤ) : Type 0 where
   pub len : length qs ≡ n
   pub each : (i : ℕ) → i < n → at qs i ≡ midpoint_residual n t y i
   pub small : AllAtMost (2 ^ 126) qs
@@ -45,13 +45,13 @@ pub record AreShiftedNumbers (n : ℕ) (vs : List ℤ) : Type 0 where
   pub few : n ≤ 1000
   pub small : AllAtMost (2 ^ 66) vs
 
--- what row i of the pilot makes of the numbers vs, which were shifted by h
-abbrev pub change_at : PilotTable → List ℤ → ℕ → ℕ → ℤ
-change_at p vs h i = floor_over (sum_to p.size (λ k. pilot_word p i k *ℤ at vs k)) (2 ^ (p.g + 60 - h))
+-- the correction of row i: what the pilot makes of the numbers vs, which were shifted by h
+abbrev pub correction_at : PilotTable → List ℤ → ℕ → ℕ → ℤ
+correction_at p vs h i = floor_over (sum_to p.size (λ k. pilot_word p i k *ℤ at vs k)) (2 ^ (p.g + 60 - h))
 
--- number i of y and its change
-abbrev pub moved_at : PilotTable → List ℤ → List ℤ → ℕ → ℕ → ℤ
-moved_at p y vs h i = at y i +ℤ change_at p vs h i
+-- number i of y and its correction
+abbrev pub corrected_at : PilotTable → List ℤ → List ℤ → ℕ → ℕ → ℤ
+corrected_at p y vs h i = at y i +ℤ correction_at p vs h i
 
 -- the numbers zs are those that f gives, and their sizes add up to at most 2^64
 pub record AreSmallNumbers (n : ℕ) (f : ℕ → ℤ) (zs : List ℤ) : Type 0 where
@@ -70,12 +70,12 @@ abbrev pub IsPassed : ℕ → (ℕ → ℤ) → VectorError → Type 0
 IsPassed n f (Range row) = PassesAt n f row
 IsPassed n f Memory = ⊤
 
--- the numbers zs are a vector, and one turn leads to them from y
-pub record IsTurned (n : ℕ) (t : Table) (p : PilotTable) (y : ℕ → ℤ) (zs : List ℤ) : Type 0 where
+-- the numbers zs are a vector, and one refinement leads to them from y
+pub record IsRefined (n : ℕ) (t : Table) (p : PilotTable) (y : ℕ → ℤ) (zs : List ℤ) : Type 0 where
   pub vector : IsVector n zs
   pub turn : IsTurn n t p y (at zs)
 
--- after one turn from y the numbers pass 2^64 at the row that the refusal names
-abbrev pub IsTurnRefused : ℕ → Table → PilotTable → (ℕ → ℤ) → VectorError → Type 0
-IsTurnRefused n t p y (Range row) = (z : ℕ → ℤ) × (IsTurn n t p y z × PassesAt n z row)
-IsTurnRefused n t p y Memory = ⊤
+-- after one refinement from y the numbers pass 2^64 at the row that the refusal names
+abbrev pub IsRefinementRefused : ℕ → Table → PilotTable → (ℕ → ℤ) → VectorError → Type 0
+IsRefinementRefused n t p y (Range row) = (z : ℕ → ℤ) × (IsTurn n t p y z × PassesAt n z row)
+IsRefinementRefused n t p y Memory = ⊤

@@ -1,4 +1,4 @@
--- The start vector: three turns from 0, each by what the pilot makes of what is left of the right side.
+-- The start vector: three refinements (turns) from 0, each by what the approximate inverse R, the pilot, makes of the residual.
 -- Its rules are this program's own; no law rests on how near to a solution it comes.
 use Rattle.std.specs.Prelude.{◌≡◌, ◌≤◌, ◌<◌, ◌+◌, ◌-◌, ◌^◌, ℕ, zero, suc, ℤ, pos, ◌+ℤ◌, ◌-ℤ◌, ◌*ℤ◌, unsigned_abs}
 use Rattle.whole_numbers.specs.Sum.{sum_to}
@@ -9,7 +9,7 @@ use Rattle.enclosures.specs.Pilots.{PilotTable, pilot_word}
 use Rattle.whole_numbers.specs.Intervals.{midpoint}
 use Rattle.stated_order.specs.First.{IsLeast}
 
--- what y leaves of the right side in row i, by the middles of the words
+-- the residual of y in row i, by the midpoints of the words
 abbrev pub midpoint_residual : ℕ → Table → (ℕ → ℤ) → ℕ → ℤ
 midpoint_residual n t y i = midpoint (t.right i) -ℤ sum_to n (λ j. midpoint (t.entry i j) *ℤ y j)
 
@@ -17,11 +17,11 @@ midpoint_residual n t y i = midpoint (t.right i) -ℤ sum_to n (λ j. midpoint (
 abbrev pub AllFitAfter : ℕ → (ℕ → ℤ) → ℕ → Type 0
 AllFitAfter n q h = (i : ℕ) → i < n → unsigned_abs (floor_over (q i) (2 ^ h)) ≤ 2 ^ 66
 
--- y and what the pilot makes of the numbers q over 2^h
+-- y and its correction: what the pilot makes of the numbers q over 2^h
 abbrev pub moved : ℕ → PilotTable → (ℕ → ℤ) → ℕ → (ℕ → ℤ) → ℕ → ℤ
 moved n p q h y i = y i +ℤ floor_over (sum_to n (λ k. pilot_word p i k *ℤ floor_over (q k) (2 ^ h))) (2 ^ (p.g + 60 - h))
 
--- one turn leads from y to z
+-- one refinement leads from y to z
 pub record IsTurn (n : ℕ) (t : Table) (p : PilotTable) (y z : ℕ → ℤ) : Type 0 where
   pub h : ℕ
   pub shift : IsLeast (AllFitAfter n (midpoint_residual n t y)) h

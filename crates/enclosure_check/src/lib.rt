@@ -1,31 +1,32 @@
 //! The certificate of a linear system whose words are intervals: a start vector, the residual test, and with it bounds
-//! between which every solution of every system in the words lies (Rump 2010).
+//! between which every solution of every system in the words lies.
 #![tactic(auto)]
 
 use thiserror::Error;
 
-mod certificate;
 #[cfg(test)]
 mod certificate_tests;
-mod defects;
-mod enclosing;
+mod certificates;
+mod enclosure;
 #[cfg(test)]
-mod enclosing_tests;
-mod errors;
+mod enclosure_tests;
+mod row_defects;
+mod row_errors;
 mod vector;
 #[cfg(test)]
 mod vector_tests;
 
-pub use certificate::check;
-pub use defects::row_defect;
-pub use enclosing::enclose;
+pub use certificates::{certificate, check};
+pub use enclosure::enclose;
 pub use enclosures::{Enclosed, Pilot, Radius};
+pub use row_defects::{defects, row_defect};
+pub use row_errors::errors;
 pub use vector::start_vector;
 
 /// Why a working table has no start vector.
 #[derive(Clone, Copy, Debug, PartialEq, Eq, Error)]
 pub enum VectorError {
-    /// After a turn the sizes of the vector pass 2^64 in sum, at this row first.
+    /// After a refinement the sizes of the vector pass 2^64 in sum, at this row first.
     #[error("the start vector passes its bound in row {row}")]
     Range { row: usize },
     /// Memory is wanting.

@@ -1,4 +1,4 @@
-//! The start vector.
+//! The start vector: three refinements from 0, each by what the approximate inverse R, the pilot, makes of the residual.
 
 ghost use Rattle.std.specs.Prelude.{◌≡◌, ◌≤◌, ◌<◌, ◌+◌, ◌^◌, ◌↔◌, pos, length, replicate, unsigned_abs, IsTrue, IfOk, IfErr, MatchResult};
 ghost use Rattle.std.specs.Vec.{vec_len};
@@ -7,13 +7,13 @@ ghost use Rattle.whole_numbers.specs.Lists.{at, AllAtMost};
 ghost use Rattle.equil.specs.Tables.{table_of};
 ghost use Rattle.enclosure_check.specs.Answers.{IsVectorRefused};
 ghost use Rattle.enclosure_check.specs.ErrorParts.{IsVector};
-ghost use Rattle.enclosure_check.specs.VectorParts.{taken_midpoint, AreMiddlesLeft, AreFloors, IsRowByNumbers, part_number, AreShiftedNumbers, change_at, moved_at, AreSmallNumbers, IsPassed, IsTurned, IsTurnRefused};
+ghost use Rattle.enclosure_check.specs.VectorParts.{taken_midpoint, AreMidpointResiduals, AreFloors, IsRowByNumbers, part_number, AreShiftedNumbers, correction_at, corrected_at, AreSmallNumbers, IsPassed, IsRefined, IsRefinementRefused};
 ghost use Rattle.enclosure_check.specs.Vectors.{IsStartVector, AllFitAfter, midpoint_residual};
 ghost use Rattle.enclosure_check.specs.declared.VectorError.TheVariants.{Memory};
 ghost use Rattle.stated_order.specs.First.{IsLeast};
 
 use crate::VectorError;
-use crate::errors::word_at;
+use crate::row_errors::word_at;
 use enclosures::Pilot;
 use equil::Working;
 use std::alloc::{AllocError, AllocFailed, Global};
@@ -25,8 +25,8 @@ const SHIFTED_LIMIT: u128 = 1 << 66;
 /// What the sizes of a vector may add up to.
 const TOTAL_LIMIT: u128 = 1 << 64;
 
-/// How many turns lead to the start vector.
-const TURNS: usize = 3;
+/// How many refinements lead to the start vector.
+const REFINEMENTS: usize = 3;
 
 impl<T: Drop> From<AllocFailed<T>> for VectorError {
     ghost from_gives = { λ _ e. e ≡ Memory };
@@ -44,7 +44,7 @@ impl From<AllocError> for VectorError {
     }
 }
 
-/// What number `j` of the vector takes of row `i`, by the middle of the word.
+/// What number `j` of the vector takes of row `i`, by the midpoint of the word.
 fn taken_midpoint<const N: usize>(w: &Working<N>, y: &[i128], i: usize, j: usize) -> i128
     requires vector { IsVector w.now.a.size y.now }
     requires row { i < w.now.a.size }
@@ -54,7 +54,7 @@ fn taken_midpoint<const N: usize>(w: &Working<N>, y: &[i128], i: usize, j: usize
     product(w.a.get(i, j).mid(), y[j])
 }
 
-/// What the vector takes of row `i`, by the middles of the words.
+/// What the vector takes of row `i`, by the midpoints of the words.
 fn taken<const N: usize>(w: &Working<N>, y: &[i128], i: usize) -> i128
     requires vector { IsVector w.now.a.size y.now }
     requires row { i < w.now.a.size }
@@ -68,7 +68,7 @@ fn taken<const N: usize>(w: &Working<N>, y: &[i128], i: usize) -> i128
     sum
 }
 
-/// What the vector leaves of the right side in row `i`, by the middles of the words.
+/// The residual of the vector in row `i`, by the midpoints of the words.
 fn midpoint_residual<const N: usize>(w: &Working<N>, y: &[i128], i: usize) -> i128
     requires vector { IsVector w.now.a.size y.now }
     requires row { i < w.now.a.size }
@@ -78,14 +78,14 @@ fn midpoint_residual<const N: usize>(w: &Working<N>, y: &[i128], i: usize) -> i1
     word_at(&w.d, i).mid() - taken(w, y, i)
 }
 
-/// What the vector leaves of the right side, row by row.
+/// The residual of the vector, row by row.
 fn midpoint_residuals<const N: usize>(
     alloc: Global,
     w: &Working<N>,
     y: &[i128],
 ) -> Result<Vec<i128>, AllocError>
     requires { IsVector w.now.a.size y.now }
-    ensures { IfOk result (λ v. AreMiddlesLeft w.now.a.size (table_of w.now.a w.now.d.items) (at y.now) v.items) }
+    ensures { IfOk result (λ v. AreMidpointResiduals w.now.a.size (table_of w.now.a w.now.d.items) (at y.now) v.items) }
 {
     let mut numbers = Vec::new(alloc);
     for i in 0..w.a.size() {
@@ -154,31 +154,31 @@ fn row_by_numbers(row: &[i64], numbers: &[i128]) -> i128
     sum
 }
 
-/// What row `i` of the pilot makes of the numbers, which were shifted by `h`.
-fn change_at(p: &Pilot, numbers: &[i128], h: u32, i: usize) -> i128
+/// The correction of row `i`: what the pilot makes of the numbers, which were shifted by `h`.
+fn correction_at(p: &Pilot, numbers: &[i128], h: u32, i: usize) -> i128
     requires numbers { AreShiftedNumbers p.now.size numbers.now }
     requires few { h ≤ 60 }
     requires row { i < p.now.size }
-    ensures value { result ≡ change_at p.now numbers.now h i }
+    ensures value { result ≡ correction_at p.now numbers.now h i }
     ensures bound { unsigned_abs result ≤ 2 ^ 126 }
 {
     shift_floor(row_by_numbers(p.row(i), numbers), p.g() + 60 - h)
 }
 
-/// Number `i` of the vector and its change.
-fn moved_at(p: &Pilot, y: &[i128], numbers: &[i128], h: u32, i: usize) -> i128
+/// Number `i` of the vector and its correction.
+fn corrected_at(p: &Pilot, y: &[i128], numbers: &[i128], h: u32, i: usize) -> i128
     requires vector { IsVector p.now.size y.now }
     requires numbers { AreShiftedNumbers p.now.size numbers.now }
     requires few { h ≤ 60 }
     requires row { i < p.now.size }
-    ensures value { result ≡ moved_at p.now y.now numbers.now h i }
+    ensures value { result ≡ corrected_at p.now y.now numbers.now h i }
     ensures bound { unsigned_abs result ≤ 2 ^ 64 + 2 ^ 126 }
 {
-    y[i] + change_at(p, numbers, h, i)
+    y[i] + correction_at(p, numbers, h, i)
 }
 
-/// The vector and its changes. Range comes exactly where the sizes pass 2^64 in sum, with the row at which they first do.
-fn moved(
+/// The vector and its corrections. Range comes exactly where the sizes pass 2^64 in sum, with the row at which they first do.
+fn corrected(
     alloc: Global,
     p: &Pilot,
     y: &[i128],
@@ -188,12 +188,12 @@ fn moved(
     requires vector { IsVector p.now.size y.now }
     requires numbers { AreShiftedNumbers p.now.size numbers.now }
     requires few { h ≤ 60 }
-    ensures { MatchResult result (λ z. AreSmallNumbers p.now.size (moved_at p.now y.now numbers.now h) z.items) (IsPassed p.now.size (moved_at p.now y.now numbers.now h)) }
+    ensures { MatchResult result (λ z. AreSmallNumbers p.now.size (corrected_at p.now y.now numbers.now h) z.items) (IsPassed p.now.size (corrected_at p.now y.now numbers.now h)) }
 {
     let mut z = Vec::new(alloc);
     let mut total: u128 = 0;
     for row in 0..p.size() {
-        let number = moved_at(p, y, numbers, h, row);
+        let number = corrected_at(p, y, numbers, h, row);
         total += number.unsigned_abs();
         if total > TOTAL_LIMIT {
             return Err(VectorError::Range { row });
@@ -203,9 +203,9 @@ fn moved(
     Ok(z)
 }
 
-/// The vector after one turn from `y`. Range comes exactly where its sizes pass 2^64 in sum, with the row at which they
+/// The vector after one refinement from `y`. Range comes exactly where its sizes pass 2^64 in sum, with the row at which they
 /// first do.
-fn turn<const N: usize>(
+fn refine<const N: usize>(
     alloc: Global,
     w: &Working<N>,
     p: &Pilot,
@@ -213,12 +213,12 @@ fn turn<const N: usize>(
 ) -> Result<Vec<i128>, VectorError>
     requires sizes { p.now.size ≡ w.now.a.size }
     requires vector { IsVector w.now.a.size y.now }
-    ensures { MatchResult result (λ z. IsTurned w.now.a.size (table_of w.now.a w.now.d.items) p.now (at y.now) z.items) (IsTurnRefused w.now.a.size (table_of w.now.a w.now.d.items) p.now (at y.now)) }
+    ensures { MatchResult result (λ z. IsRefined w.now.a.size (table_of w.now.a w.now.d.items) p.now (at y.now) z.items) (IsRefinementRefused w.now.a.size (table_of w.now.a w.now.d.items) p.now (at y.now)) }
 {
     let numbers = midpoint_residuals(alloc, w, y)?;
     let h = least_shift(&numbers);
     let shifted = floors(alloc, &numbers, h)?;
-    moved(alloc, p, y, &shifted, h)
+    corrected(alloc, p, y, &shifted, h)
 }
 
 /// The vector of zeros.
@@ -228,7 +228,7 @@ fn zeros(alloc: Global, n: usize) -> Result<Vec<i128>, AllocError>
     vec![in alloc; 0i128; n]
 }
 
-/// The start vector of the pilot, in units of the working table. Range comes exactly where after one of the three turns
+/// The start vector of the pilot, in units of the working table. Range comes exactly where after one of the three refinements
 /// the sizes of the vector pass 2^64 in sum, with the row at which they first do.
 pub fn start_vector<const N: usize>(
     alloc: Global,
@@ -241,8 +241,8 @@ pub fn start_vector<const N: usize>(
     ensures refused { IfErr result (IsVectorRefused w.now.a.size (table_of w.now.a w.now.d.items) p.now) }
 {
     let mut y = zeros(alloc, w.a.size())?;
-    for k in 0..TURNS {
-        y = turn(alloc, w, p, &y)?;
+    for k in 0..REFINEMENTS {
+        y = refine(alloc, w, p, &y)?;
     }
     Ok(y)
 }

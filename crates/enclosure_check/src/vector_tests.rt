@@ -1,7 +1,6 @@
 //! Tests of the start vector and of the errors at it. The numbers are worked out by hand from the definitions.
 
-use crate::errors::row_errors;
-use crate::{VectorError, start_vector};
+use crate::{VectorError, errors, start_vector};
 use enclosures::Pilot;
 use equil::working;
 use interval_word::Iv;
@@ -22,12 +21,12 @@ fn one_row<const N: usize>(alloc: Global) -> Result<bool, VectorError> {
     ) {
         (Ok(w), Some(p)) => {
             let y = start_vector(alloc, &w, &p)?;
-            let errors = row_errors(alloc, &w, &p, &y)?;
-            let errors_at_zero = row_errors(alloc, &w, &p, &[0])?;
+            let at_start = errors(alloc, &w.a, &w.d, &p, &y)?;
+            let at_zero = errors(alloc, &w.a, &w.d, &p, &[0])?;
             Ok(
                 y.as_slice() == [5_000_000_000_000].as_slice()
-                    && errors.as_slice() == [0].as_slice()
-                    && errors_at_zero.as_slice() == [5_000_000_000_001].as_slice(),
+                    && at_start.as_slice() == [0].as_slice()
+                    && at_zero.as_slice() == [5_000_000_000_001].as_slice(),
             )
         }
         _ => Ok(false),

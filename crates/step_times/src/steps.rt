@@ -6,7 +6,7 @@ ghost use Rattle.solve_plain.specs.Files.{IsSound, file_of};
 use crate::tables::strongly_diagonal;
 use anyhow::{Result, bail};
 use chol_factor::factor;
-use chol_guess::pilot;
+use chol_guess::{midpoint_square, pilot};
 use enclosure_check::{check, start_vector};
 use equil::{Working, working};
 use interval_word::Iv;
@@ -25,7 +25,8 @@ fn working_steps<R: Threads + Sync + Clock + Print + AllocGlobal>(
 ) -> Result<()> {
     let alloc = rt.alloc();
     let start = Instant::now(rt)?;
-    let _factor = factor(alloc, w)?;
+    let midpoints = midpoint_square(alloc, w)?;
+    let _factor = factor(midpoints)?;
     let factor = start.elapsed(rt)?.as_millis();
     let start = Instant::now(rt)?;
     let p = pilot(rt, alloc, w, 1)?;

@@ -12,3 +12,4 @@ pub mod Sizes
 pub mod Sums
 pub mod IntervalLaws
 pub mod ListLaws
+pub mod SquareLaws

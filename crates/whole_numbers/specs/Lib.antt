@@ -4,3 +4,4 @@ pub mod Quotients
 pub mod Scaling
 pub mod Sum
 pub mod Intervals
+pub mod Squares

@@ -7,8 +7,10 @@ ghost use Rattle.std.specs.Prelude.{◌≡◌, ℕ, ℤ, pos, ◌+ℤ◌, ◌-�
 ghost use Rattle.whole_numbers.specs.Quotients.{floor_over, ceil_over};
 
 mod scaling;
+mod squares;
 
 pub use scaling::{scale_ceil, scale_floor, ten_to};
+pub use squares::Square;
 
 /// The product of two numbers whose sizes have a product of at most 2^126.
 #[tactic(auto, using(crate::proofs::Fits::product_bits, crate::proofs::Fits::product_value))]

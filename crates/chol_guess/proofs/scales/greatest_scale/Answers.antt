@@ -1,10 +1,10 @@
-use Rattle.chol_factor.specs.Factor.{factor_word}
+use Rattle.whole_numbers.specs.Squares.{square_at}
 use Rattle.chol_guess.proofs.Placed.{next_scale, fail_next}
 use Rattle.chol_guess.proofs.scales.greatest_scale.Goals as goal
 
 pub scales-preserved : goal.scales-preserved
 scales-preserved c = record {
   scale = next_scale c.scales.g c.scales.invariant.scale c.if-g-eq0.false;
-  greater = fail_next c.args.f.now.size (factor_word c.args.f.now) c.scales.g c.in-Some.col c.scales.invariant.scale c.in-Some.ensures.first c.scales.invariant.greater;
+  greater = fail_next c.args.f.now.size (square_at c.args.f.now) c.scales.g c.in-Some.col c.scales.invariant.scale c.in-Some.ensures.first c.scales.invariant.greater;
   small = c.place_columns.ensures.small;
 }

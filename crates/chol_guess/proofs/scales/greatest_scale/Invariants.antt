@@ -1,5 +1,5 @@
 use Rattle.std.proofs.Common.{◌^◌}
-use Rattle.chol_factor.specs.Factor.{factor_word}
+use Rattle.whole_numbers.specs.Squares.{square_at}
 use Rattle.whole_numbers.specs.Lists.{AllAtMost}
 use Rattle.enclosures.specs.Pilots.{IsPilotScale}
 use Rattle.chol_guess.specs.Rows.{FailAbove}
@@ -8,7 +8,7 @@ use Rattle.chol_guess.proofs.scales.greatest_scale.Given as goal
 abbrev pub invariant-scales : goal.invariant-scales
 invariant-scales l = record {
   scale : IsPilotScale l.g;
-  greater : FailAbove l.f.size (factor_word l.f) l.g;
+  greater : FailAbove l.f.size (square_at l.f) l.g;
   small : AllAtMost (2 ^ 50) l.words;
 }
 

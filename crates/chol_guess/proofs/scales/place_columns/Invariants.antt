@@ -1,11 +1,11 @@
 use Rattle.std.proofs.Common.{◌^◌}
-use Rattle.chol_factor.specs.Factor.{factor_word}
+use Rattle.whole_numbers.specs.Squares.{square_at}
 use Rattle.whole_numbers.specs.Lists.{AllAtMost}
 use Rattle.chol_guess.specs.Rows.{PlacesColumns}
 use Rattle.chol_guess.proofs.scales.place_columns.Given as goal
 
 abbrev pub invariant-loop-c : goal.invariant-loop-c
 invariant-loop-c l = record {
-  columns : PlacesColumns l.f.size (factor_word l.f) l.g l.words l.c;
+  columns : PlacesColumns l.f.size (square_at l.f) l.g l.words l.c;
   small : AllAtMost (2 ^ 50) l.words;
 }

@@ -1,7 +1,0 @@
-use Rattle.chol_factor.specs.Factor.{factor_word}
-use Rattle.whole_numbers.specs.Lists.{at}
-use Rattle.chol_guess.specs.Rows.{IsDownFrom}
-use Rattle.chol_guess.proofs.columns.go_down.Given as goal
-
-abbrev pub invariant-loop-i : goal.invariant-loop-i
-invariant-loop-i l = IsDownFrom l.f.size l.i (factor_word l.f) (at l.u) (at l.x)

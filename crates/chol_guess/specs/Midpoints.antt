@@ -1,0 +1,13 @@
+-- The midpoints of a table of intervals, in units of its words.
+use Rattle.std.specs.Prelude.{◌≡◌, ◌<◌, ℕ, ℤ}
+use Rattle.whole_numbers.specs.Intervals.{midpoint}
+use Rattle.whole_numbers.specs.Squares.{SquareTable, square_at}
+use Rattle.sym_blocks.specs.Tables.{SymTable, word}
+
+-- the midpoint of the word (i, j)
+abbrev pub midpoints : SymTable → ℕ → ℕ → ℤ
+midpoints a i j = midpoint (word a i j)
+
+-- the first m rows of the square are the midpoints of the table
+abbrev pub HasRows : ℕ → SymTable → SquareTable → Type 0
+HasRows m a s = (i k : ℕ) → i < m → k < a.size → square_at s i k ≡ midpoints a i k

@@ -1,8 +1,0 @@
-use Rattle.std.proofs.Common.{◌≡◌}
-use Rattle.sym_blocks.specs.Tables.{word}
-use Rattle.whole_numbers.specs.Lists.{at}
-use Rattle.enclosure_check.specs.Defects.{products_to}
-use Rattle.enclosure_check.proofs.defects.column_products.Given as goal
-
-abbrev pub invariant-loop-k : goal.invariant-loop-k
-invariant-loop-k g l = l.sum ≡ products_to l.k (at l.r) (λ k. word l.w.a k l.j)

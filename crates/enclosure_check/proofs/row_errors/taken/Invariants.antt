@@ -1,0 +1,7 @@
+use Rattle.std.proofs.Common.{◌≡◌}
+use Rattle.whole_numbers.specs.Intervals.{sum_intervals}
+use Rattle.enclosure_check.specs.ErrorParts.{taken_interval}
+use Rattle.enclosure_check.proofs.row_errors.taken.Given as goal
+
+abbrev pub invariant-loop-j : goal.invariant-loop-j
+invariant-loop-j g l = l.sum ≡ sum_intervals l.j (taken_interval l.a l.y l.i)

@@ -1,0 +1,201 @@
+//! The errors of all rows: what the approximate inverse R, the pilot, makes of the residual of a vector.
+
+ghost use Rattle.std.specs.Prelude.{◌≡◌, ◌≤◌, ◌<◌, ◌^◌, ◌↔◌, ℕ, length, IfOk, IsTrue};
+ghost use Rattle.whole_numbers.specs.Intervals.{size, sum_intervals};
+ghost use Rattle.sys_model.specs.Systems.{residual_interval};
+ghost use Rattle.whole_numbers.specs.Lists.{at};
+ghost use Rattle.equil.specs.Tables.{table_of};
+ghost use Rattle.enclosure_check.specs.Certificates.{AreErrors};
+ghost use Rattle.enclosure_check.specs.Inputs.{IsWorkingTable, IsRightSide};
+ghost use Rattle.enclosure_check.specs.ErrorParts.{IsVector, taken_interval, AreResiduals, FitAfter, AreShifted, IsRowByWords, part_interval, word_at, AreShiftedResiduals, shifted_error, AreShiftedErrors};
+ghost use Rattle.enclosures.specs.Vectors.{IsSmall};
+ghost use Rattle.stated_order.specs.First.{IsLeast};
+
+use enclosures::Pilot;
+use interval_word::Iv;
+use std::alloc::{AllocError, Global};
+use sym_blocks::SymBlock;
+
+/// The greatest size of a word that the pilot is multiplied with.
+const SHIFTED_LIMIT: u128 = 1 << 66;
+
+/// The word at `k`.
+pub fn word_at(words: &[Iv], k: usize) -> Iv
+    requires { k < length words.now }
+    ensures { result ≡ word_at words.now k }
+{
+    words[k]
+}
+
+/// What number `j` of the vector takes of row `i`.
+fn taken_interval<const N: usize>(a: &SymBlock<N>, y: &[i128], i: usize, j: usize) -> Iv
+    requires words { IsWorkingTable a.now }
+    requires vector { IsVector a.now.size y.now }
+    requires row { i < a.now.size }
+    requires column { j < a.now.size }
+    ensures { result ≡ taken_interval a.now y.now i j }
+{
+    a.get(i, j).mul_small(y[j])
+}
+
+/// What the vector takes of row `i`.
+fn taken<const N: usize>(a: &SymBlock<N>, y: &[i128], i: usize) -> Iv
+    requires words { IsWorkingTable a.now }
+    requires vector { IsVector a.now.size y.now }
+    requires row { i < a.now.size }
+    ensures value { result ≡ sum_intervals a.now.size (taken_interval a.now y.now i) }
+    ensures bound { size result ≤ 2 ^ 125 }
+{
+    let mut sum = Iv::point(0);
+    for j in 0..a.size() {
+        sum = sum.add(&taken_interval(a, y, i, j));
+    }
+    sum
+}
+
+/// The residual of the vector in row `i`.
+fn residual_interval<const N: usize>(a: &SymBlock<N>, d: &[Iv], y: &[i128], i: usize) -> Iv
+    requires words { IsWorkingTable a.now }
+    requires rights { IsRightSide a.now.size d.now }
+    requires vector { IsVector a.now.size y.now }
+    requires row { i < a.now.size }
+    ensures value { result ≡ residual_interval a.now.size (table_of a.now d.now) (at y.now) i }
+    ensures bound { size result ≤ 2 ^ 126 }
+{
+    word_at(d, i).sub(&taken(a, y, i))
+}
+
+/// The residual of the vector, row by row.
+fn residual_intervals<const N: usize>(
+    alloc: Global,
+    a: &SymBlock<N>,
+    d: &[Iv],
+    y: &[i128],
+) -> Result<Vec<Iv>, AllocError>
+    requires words { IsWorkingTable a.now }
+    requires rights { IsRightSide a.now.size d.now }
+    requires vector { IsVector a.now.size y.now }
+    ensures { IfOk result (λ v. AreResiduals a.now.size (table_of a.now d.now) (at y.now) v.items) }
+{
+    let mut words = Vec::new(alloc);
+    for i in 0..a.size() {
+        words.push(residual_interval(a, d, y, i))?;
+    }
+    Ok(words)
+}
+
+/// Whether each word is at most 2^66 in size after an outward shift by `h`.
+fn fit_after(words: &[Iv], h: u32) -> bool
+    requires { h ≤ 60 }
+    ensures { IsTrue result ↔ FitAfter words.now h }
+{
+    for k in 0..words.len() {
+        if word_at(words, k).shift_out(h).mag() > SHIFTED_LIMIT {
+            return false;
+        }
+    }
+    true
+}
+
+/// The least outward shift after which each word is at most 2^66 in size.
+fn least_shift(words: &[Iv]) -> u32
+    requires { (k : ℕ) → k < length words.now → size (word_at words.now k) ≤ 2 ^ 126 }
+    ensures few { result ≤ 60 }
+    ensures least { IsLeast (FitAfter words.now) result }
+{
+    let mut h = 0;
+    while h < 60 && !fit_after(words, h) {
+        h += 1;
+    }
+    h
+}
+
+/// The words after an outward shift by `h`.
+fn shifted_words(alloc: Global, words: &[Iv], h: u32) -> Result<Vec<Iv>, AllocError>
+    requires { h ≤ 60 }
+    ensures { IfOk result (λ v. AreShifted h words.now v.items) }
+{
+    let mut shifted = Vec::new(alloc);
+    for k in 0..words.len() {
+        shifted.push(word_at(words, k).shift_out(h))?;
+    }
+    Ok(shifted)
+}
+
+/// The product of number `k` of a row of the pilot and word `k`.
+fn part_interval(row: &[i64], words: &[Iv], k: usize) -> Iv
+    requires sizes { IsRowByWords row.now words.now }
+    requires within { k < length words.now }
+    ensures { result ≡ part_interval row.now words.now k }
+{
+    word_at(words, k).mul_small(i128::from(row[k]))
+}
+
+/// What a row of the pilot makes of the words.
+fn row_by_words(row: &[i64], words: &[Iv]) -> Iv
+    requires { IsRowByWords row.now words.now }
+    ensures { result ≡ sum_intervals (length words.now) (part_interval row.now words.now) }
+{
+    let mut sum = Iv::point(0);
+    for k in 0..words.len() {
+        sum = sum.add(&part_interval(row, words, k));
+    }
+    sum
+}
+
+/// The power 2^k.
+#[tactic(auto, using(whole_numbers::proofs::Division::two_pow_le))]
+fn two_to(k: u32) -> u128
+    requires { k ≤ 110 }
+    ensures value { result ≡ 2 ^ k }
+    ensures some { 0 < result }
+{
+    1 << k
+}
+
+/// The error of row `i`: what the pilot makes of the words that were shifted by `h`, rounded up.
+fn row_error(p: &Pilot, words: &[Iv], h: u32, i: usize) -> u128
+    requires sizes { AreShiftedResiduals p.now.size words.now }
+    requires few { h ≤ 60 }
+    requires row { i < p.now.size }
+    ensures { result ≡ shifted_error p.now words.now h i }
+{
+    row_by_words(p.row(i), words)
+        .mag()
+        .div_ceil(two_to(p.g() + 60 - h))
+}
+
+/// The errors of all rows, from what the vector leaves shifted by `h`.
+fn errors_of(alloc: Global, p: &Pilot, words: &[Iv], h: u32) -> Result<Vec<u128>, AllocError>
+    requires sizes { AreShiftedResiduals p.now.size words.now }
+    requires few { h ≤ 60 }
+    ensures { IfOk result (λ v. AreShiftedErrors p.now words.now h v.items) }
+{
+    let mut errors = Vec::new(alloc);
+    for i in 0..p.size() {
+        errors.push(row_error(p, words, h, i))?;
+    }
+    Ok(errors)
+}
+
+/// The errors of all rows at the vector `y`, for one right side of the table. The greater work, the defects, is no part of
+/// it, so each further right side of a table costs `errors` and `certificate` alone.
+pub fn errors<const N: usize>(
+    alloc: Global,
+    a: &SymBlock<N>,
+    d: &[Iv],
+    p: &Pilot,
+    y: &[i128],
+) -> Result<Vec<u128>, AllocError>
+    requires words { IsWorkingTable a.now }
+    requires rights { IsRightSide a.now.size d.now }
+    requires sizes { p.now.size ≡ a.now.size }
+    requires len { length y.now ≡ a.now.size }
+    requires small { IsSmall a.now.size (at y.now) }
+    ensures { IfOk result (λ v. AreErrors a.now.size (table_of a.now d.now) p.now (at y.now) v.items) }
+{
+    let words = residual_intervals(alloc, a, d, y)?;
+    let h = least_shift(&words);
+    let shifted = shifted_words(alloc, &words, h)?;
+    errors_of(alloc, p, &shifted, h)
+}
