@@ -1,5 +1,5 @@
 -- A run has one verdict, and what gives it.
-use Rattle.std.proofs.Common.{◌≡◌, ◌≢◌, ◌∷◌, ◌<◌, ◌≤◌, ℕ, Bool, true, false, List, [], length, nat_lt, if◌then◌else◌, Option, Some, None, Result, Ok, Err, IfErr, codes, refl, sym, ◌∙◌, ap, subst, inl, inr, arith}
+use Rattle.std.proofs.Common.{◌≡◌, ◌≢◌, ◌⊎◌, ◌∷◌, ◌<◌, ◌≤◌, ℕ, Bool, true, false, List, [], length, nat_lt, if◌then◌else◌, Option, Some, None, Result, Ok, Err, IfErr, codes, refl, sym, ◌∙◌, ap, subst, inl, inr, arith}
 use Rattle.stated_order.specs.Steps.{IsOne, Then}
 use Rattle.stated_order.proofs.StepLaws.{then_is_one}
 use Rattle.desk_io.specs.Content.{File}
@@ -11,12 +11,13 @@ use Rattle.plain_rows.proofs.Readings.{one_plain}
 use Rattle.solve_plain.specs.Solving.{Numbers, IsAnswer}
 use Rattle.solve_plain.specs.declared.SolveError.{SolveError}
 use Rattle.solve_plain.proofs.Alone.{answer_is_one}
-use Rattle.combine_cli.specs.Refusals.{refusal_of}
+use Rattle.solve_plain.specs.declared.SolveError.TheVariants as causes
+use Rattle.combine_cli.specs.Refusals.{status_of, refusal_of}
 use Rattle.combine_cli.specs.Verdict.{FileNames, AreSolve, Outcome, ReadsWords, ReadsFile, ReadsText, Solves, IsVerdict, outcome_of, file_limit}
 use Rattle.combine_cli.specs.Headline.{IsCertifiedReport, IsCertifiedRun}
 use Rattle.combine_cli.specs.Plan.{IfTold, IsTextVerdict, IsPlanned}
 use Rattle.combine_cli.specs.declared.refusal.Refusal.{Refusal}
-use Rattle.combine_cli.specs.declared.refusal.Refusal.TheVariants.{NoFile, TooLong}
+use Rattle.combine_cli.specs.declared.refusal.Refusal.TheVariants.{NoFile, TooLong, Memory}
 
 -- ---- each step has one result
 
@@ -133,3 +134,9 @@ pub rules_told : {T : Type 0} (r : Result T Refusal) (names : FileNames) (text :
     → IfErr r (IfTold (λ refusal. IsTextVerdict names text (Err refusal)))
 rules_told (Ok x) names text plain reads h = tt
 rules_told (Err refusal) names text plain reads h = λ a b. let k = h a b in rules_refused names text plain refusal k.0 reads k.1 k.2
+
+-- a cause of the rules other than want of memory, told as its refusal
+pub told_cause : (refusal : Refusal) (from : List ℕ) (p : PlainFile) (cause : SolveError) → (cause ≡ causes.Memory) ⊎ IsAnswer p (Err cause)
+    → IfTold (λ r. r ≡ refusal_of from p.rows cause) refusal → IfTold (λ r. (cause : SolveError) × IsAnswer p (Err cause) × (r ≡ refusal_of from p.rows cause)) refusal
+told_cause refusal from p cause (inr answer) h = λ a b. (cause, answer, h a b)
+told_cause refusal from p cause (inl memory) h = λ a b. let e : refusal ≡ Memory = h a b ∙ ap (refusal_of from p.rows) memory in absurd (a (ap status_of e))

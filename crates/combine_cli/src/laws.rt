@@ -1,9 +1,10 @@
 // What the definitions say at worked values. Each law is a function that does nothing.
-ghost use Rattle.std.specs.Prelude.{◌≡◌, ◌≢◌, ◌<◌, ◌∷◌, ◌*ℤ◌, ℕ, pos, [], true, List, Option, Some, None, Ok, Err, codes};
+ghost use Rattle.std.specs.Prelude.{◌≡◌, ◌≢◌, ◌<◌, ◌∷◌, ◌*ℤ◌, ℕ, ℤ, pos, [], true, List, Option, Some, None, Ok, Err, codes};
 ghost use Rattle.decimal_e.specs.Decimals.{Decimal};
 ghost use Rattle.desk_io.specs.Content.{File, Content, IsFront};
 ghost use Rattle.desk_io.specs.Outputs.{NamedText, HoldsWhole};
-ghost use Rattle.sys_model.specs.Systems.{System, Fractions, Table, LiesInStack, Solves};
+ghost use Rattle.sys_model.specs.Scaling.{LiesInStack};
+ghost use Rattle.sys_model.specs.Systems.{System, Fractions, Table, Solves};
 ghost use Rattle.bounds_report.specs.Bounds.{AreCertified, LiesBetween};
 ghost use Rattle.bounds_report.specs.declared.numbers.Printed.{Printed};
 ghost use Rattle.solve_plain.specs.Exact.{IsExact};
@@ -15,19 +16,22 @@ ghost use Rattle.combine_cli.specs.declared.refusal.Scope.TheVariants as places;
 ghost use Rattle.combine_cli.specs.declared.refusal.Refusal.TheVariants as refusals;
 
 /// The bounds of a row are inequalities: 1 + 1/2 lies between 1.5 and 1.5, and neither above a lower bound that is greater by one
-/// unit nor below an upper bound that is less by one. Numbers that are certified keep them in each row, the first among them.
+/// unit nor below an upper bound that is less by one. Numbers that are certified keep them in each row, the first among them,
+/// and there is a solution.
 pub fn bounds_hold_their_solutions()
     ensures both { LiesBetween (bounded_by (pos 15000000000000000) (pos 15000000000000000)) one (pos 1) 2 }
     ensures lower { ¬ (LiesBetween (bounded_by (pos 15000000000000001) (pos 15000000000000001)) one (pos 1) 2) }
     ensures upper { ¬ (LiesBetween (bounded_by (pos 14999999999999999) (pos 14999999999999999)) one (pos 1) 2) }
-    ensures rows { (n : ℕ) (t : Table) (x0 : ℕ → Decimal) (p : ℕ → Printed) (S : System) (v : Fractions) (i : ℕ) → AreCertified n t x0 p
-        → LiesInStack n t S → Solves n S v → i < n → LiesBetween (p i) (x0 i) (v.x i) v.s }
+    ensures rows { (n : ℕ) (t : Table) (scale : ℕ → ℤ) (x0 : ℕ → Decimal) (p : ℕ → Printed) (S : System) (v : Fractions) (i : ℕ) → AreCertified n t scale x0 p
+        → LiesInStack n t scale S → Solves n S v → i < n → LiesBetween (p i) (x0 i) (v.x i) v.s }
+    ensures solvable { (n : ℕ) (t : Table) (scale : ℕ → ℤ) (x0 : ℕ → Decimal) (p : ℕ → Printed) (S : System) → AreCertified n t scale x0 p
+        → LiesInStack n t scale S → (v : Fractions) × Solves n S v }
 {}
 
-/// The exact systems of a file with the matrix .4E+01 and the vector .25 are those of 4 x = 1/4.
+/// The exact systems of a file with the matrix .4E+04 and the vector .25 are those of 4000 x = 1/4.
 pub fn exact_systems_are_as_written()
-    ensures some { IsExact worked_file (record { q = 4; a = λ _ _. pos 16; c = λ _. pos 1 }) }
-    ensures matrix { (S : System) → IsExact worked_file S → S.a 0 0 ≡ pos 4 *ℤ pos S.q }
+    ensures some { IsExact worked_file (record { q = 4; a = λ _ _. pos 16000; c = λ _. pos 1 }) }
+    ensures matrix { (S : System) → IsExact worked_file S → S.a 0 0 ≡ pos 4000 *ℤ pos S.q }
     ensures vector { (S : System) → IsExact worked_file S → S.c 0 *ℤ pos 4 ≡ pos S.q }
 {}
 

@@ -113,8 +113,9 @@ pub fn run<R: Threads + Sync, D: Desk>(rt: &R, alloc: Global, words: &[String], 
         → IsVerdict (map string_bytes words.now) (D.content desk.old).files outcome
         → StoppedThen outcome (Excuses result) (D.content desk.old) (D.content desk.new) }
 
-    // The exact system of the input's normal equations lies in their words. Each solution of each system in them lies between
-    // the printed bounds, two solutions are equal, and the printed estimates leave at most the printed residual in every row.
+    // The input's normal equations have an exact system, and each one lies in the intervals of their numbers. Each system in
+    // them has a solution, all its solutions are equal and lie between the printed bounds, and the printed estimates leave at
+    // most the printed residual in every row.
     ensures certified { IsTrue D.tells → result ≡ 0 → IsCertifiedRun (map string_bytes words.now) (D.content desk.old).files (D.content desk.new).files }
 {
     match carry_out(rt, alloc, words, desk) {
