@@ -1,5 +1,5 @@
 -- Each step of the rules has one result, and so have the rules.
-use Rattle.std.proofs.Common.{◌≡◌, ◌≤◌, ◌<◌, ◌^◌, ◌⊎◌, inl, inr, ◌∙◌, ℕ, ℤ, pos, neg_ℤ, List, Result, Ok, Err, arith, sym, ap, subst}
+use Rattle.std.proofs.Common.{◌≡◌, ◌≤◌, ◌<◌, ◌^◌, ◌⊎◌, inl, inr, ◌∙◌, ℕ, ℤ, pos, neg_ℤ, List, Ok, Err, arith, sym, ap, subst}
 use Rattle.std.proofs.Math.IntN.{◌-ℤ◌}
 use Rattle.stated_order.specs.Steps.{IsOne}
 use Rattle.stated_order.proofs.StepLaws.{then_is_one}
@@ -22,7 +22,6 @@ use Rattle.enclosure_check.proofs.AloneCertificates.{certified_parts, certified_
 use Rattle.bounds_report.proofs.AlonePrinted.{printed_alone, printed_no_refusal, print_refusal_alone}
 use Rattle.stack_rules.specs.Stacks.{Stack}
 use Rattle.stack_rules.specs.Rules.{Worked, intervals_of, midpoints_of, IsWorkedOf, IsWorkingStep, IsPilotStep, IsVectorStep, Certificate, certificate_of, radius_in, power_of, IsCertificateStep, IsPrintingStep, IsAnswer}
-use Rattle.stack_rules.specs.declared.StackError.{StackError}
 use Rattle.stack_rules.specs.declared.StackError.TheVariants.{Range, Pivot, Condition, Residual, Defect}
 use Rattle.stack_rules.proofs.EqualTables.{equal_symmetric, equal_square}
 

@@ -1,5 +1,5 @@
 -- What the calls of the steps answer is the answer of the rules.
-use Rattle.std.proofs.Common.{◌≡◌, ◌≤◌, ◌<◌, ◌*◌, ◌^◌, inl, inr, ℕ, ℤ, ◌+ℤ◌, List, length, slice_index_or, Result, Ok, Err, refl, sym, ap, ◌∙◌, subst, arith}
+use Rattle.std.proofs.Common.{◌≡◌, ◌≤◌, ◌<◌, ◌*◌, ◌^◌, inl, inr, ℕ, ℤ, ◌+ℤ◌, List, length, slice_index_or, Result, Ok, refl, ap, ◌∙◌, subst, arith}
 use Rattle.stated_order.specs.Steps.{Then}
 use Rattle.whole_numbers.specs.Intervals.{size}
 use Rattle.whole_numbers.specs.Lists.{at}
@@ -33,7 +33,7 @@ use Rattle.equil.specs.Scaled.{CarriesSystems}
 use Rattle.bounds_report.specs.Refusals.{IsPrintRefused}
 use Rattle.stack_rules.specs.Refusals.{of_working, of_pilot, of_vector, of_certificate, of_printing}
 use Rattle.stack_rules.specs.Stacks.{Stack}
-use Rattle.stack_rules.specs.Rules.{Worked, intervals_of, midpoints_of, IsWorkedOf, IsWorkingStep, IsPilotOf, IsPilotStep, IsVectorOf, IsVectorStep, Certificate, certificate_of, radius_in, power_of, IsCertificateOf, IsCertificateStep, IsPrintingStep, Numbers, numbers_from, IsAnswer, IsRefusedWith}
+use Rattle.stack_rules.specs.Rules.{Worked, intervals_of, midpoints_of, IsWorkedOf, IsPilotOf, IsPilotStep, IsVectorOf, IsVectorStep, Certificate, certificate_of, radius_in, power_of, IsCertificateStep, IsPrintingStep, Numbers, numbers_from, IsAnswer, IsRefusedWith}
 use Rattle.stack_rules.specs.declared.StackError.{StackError}
 
 -- ---- the rules from each step on

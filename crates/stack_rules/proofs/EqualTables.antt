@@ -1,5 +1,5 @@
 -- Tables with equal members have equal lists.
-use Rattle.std.proofs.Common.{◌≡◌, ◌≤◌, ◌<◌, ◌+◌, ◌*◌, ◌/◌, ◌%◌, ◌∙◌, ℕ, zero, suc, ℤ, pos, List, length, get_or, arith, sym, ap}
+use Rattle.std.proofs.Common.{◌≡◌, ◌≤◌, ◌<◌, ◌+◌, ◌*◌, ◌/◌, ◌%◌, ◌∙◌, ℕ, zero, suc, pos, length, get_or, arith, sym, ap}
 use Rattle.std.proofs.Math.Nat.{div-lt_iff_lt-mul}
 use Rattle.whole_numbers.specs.Lists.{at}
 use Rattle.whole_numbers.proofs.ListLaws.{equal_lists}
