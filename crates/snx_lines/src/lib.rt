@@ -6,7 +6,7 @@ mod columns;
 mod passing;
 
 pub use blocks::{Block, Frame, FrameCause, FrameError, FrameFault, Framing};
-pub use columns::{Kind, Line, field};
+pub use columns::{Kind, Line, field, word};
 pub use passing::{frame, framing};
 
 #[cfg(test)]
