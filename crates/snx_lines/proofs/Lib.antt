@@ -1,4 +1,3 @@
-pub mod Judged
+pub mod BlockLaws
 pub mod Passed
-pub mod Advance
-pub mod Ends
+pub mod Alone

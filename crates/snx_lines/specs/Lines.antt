@@ -1,7 +1,7 @@
 -- The lines of a text, as the SINEX 2.02 format description sees them: the first column says what a line is, and columns after 80 are not read.
-use Rattle.std.specs.Prelude.{ℕ, ◌+◌, ◌-◌, ◌==◌, if◌then◌else◌, List, [], ◌∷◌, map, take, drop, Option, Some, None, slice_range}
-use Rattle.std.specs.List.{before_first}
-use Rattle.blanks.specs.Blanks.{is_blank, trimmed}
+use Rattle.std.specs.Prelude.{ℕ, suc, zero, ◌+◌, ◌-◌, ◌==◌, if◌then◌else◌, List, [], ◌∷◌, map, take, drop, Option, Some, None, slice_range}
+use Rattle.std.specs.List.{before_first, position_or_len}
+use Rattle.blanks.specs.Blanks.{is_blank, trimmed, front_trimmed}
 use Rattle.bstr.specs.Text.{lines_of, without_terminator}
 use Rattle.snx_lines.specs.declared.columns.Kind.{Kind}
 use Rattle.snx_lines.specs.declared.columns.Kind.TheVariants as kinds
@@ -49,3 +49,16 @@ columns text from to = trimmed (slice_range text (from - 1) to)
 -- the name on a title or an end line: what follows its first column, up to the first blank
 abbrev pub name_on : List ℕ → List ℕ
 name_on text = before_first is_blank (drop 1 text)
+
+-- what stands from the first blank of a text on
+abbrev pub from_blank : List ℕ → List ℕ
+from_blank text = drop (position_or_len is_blank text) text
+
+-- word k of a text, counted from 0: the bytes up to the next blank, after k words and the blanks round them. It is empty where the text has no such word
+abbrev pub word_at : ℕ → List ℕ → List ℕ
+word_at zero text = before_first is_blank (front_trimmed text)
+word_at (suc k) text = word_at k (from_blank (front_trimmed text))
+
+-- word k after the name on a title
+abbrev pub title_word : List ℕ → ℕ → List ℕ
+title_word text k = word_at k (from_blank (drop 1 text))

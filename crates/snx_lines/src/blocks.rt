@@ -1,6 +1,10 @@
 //! What a text is framed into.
 
+ghost use Rattle.std.specs.Prelude.{◌≡◌};
+ghost use Rattle.snx_lines.specs.declared.blocks.FrameError.TheVariants.{Memory};
+
 use crate::columns::Line;
+use std::alloc::AllocError;
 use thiserror::Error;
 
 /// Why a text has no frame.
@@ -44,6 +48,15 @@ pub struct Block<'a> {
     pub body: Vec<Line<'a>>,
 }
 
+/// A text up to its first bad line.
+#[derive(Debug, Drop)]
+pub struct Framing<'a> {
+    /// The blocks before that line, in the order of their titles. The last may have no end.
+    pub blocks: Vec<Block<'a>>,
+    /// The first bad line, if there is one.
+    pub stop: Option<FrameFault>,
+}
+
 /// A whole text: its first line and its blocks in order.
 #[derive(Debug, Drop)]
 pub struct Frame<'a> {
@@ -62,4 +75,12 @@ pub enum FrameError {
     /// Want of memory.
     #[error("out of memory")]
     Memory,
+}
+
+impl From<AllocError> for FrameError {
+    ghost from_gives = { λ _ r. r ≡ Memory };
+
+    fn from(_e: AllocError) -> FrameError {
+        FrameError::Memory
+    }
 }

@@ -3,9 +3,9 @@
 ghost use Rattle.std.specs.Prelude.{◌≡◌, ◌+◌, ◌-◌, ◌≤◌, ◌<◌, ℕ, length, take, drop};
 ghost use Rattle.std.specs.List.{before_first, position_or_len};
 ghost use Rattle.blanks.specs.Blanks.{is_blank};
-ghost use Rattle.snx_lines.specs.Lines.{kind_by, kind_of, columns, name_on, cut};
+ghost use Rattle.snx_lines.specs.Lines.{kind_by, kind_of, columns, name_on, cut, from_blank, word_at, title_word};
 
-use blanks::{is_blank, trim};
+use blanks::{is_blank, trim, trim_front};
 
 /// What the first column of a line says.
 #[derive(Clone, Copy, Debug, PartialEq, Eq)]
@@ -70,17 +70,50 @@ fn first_blank(text: &[u8]) -> usize
     text.len()
 }
 
+/// A text up to its first blank.
+fn to_blank<'a>(text: &'a [u8]) -> &'a [u8]
+    ensures { result.now ≡ before_first is_blank text.now }
+{
+    let end = first_blank(text);
+    &text[..end]
+}
+
+/// A text from its first blank on.
+fn from_blank<'a>(text: &'a [u8]) -> &'a [u8]
+    ensures { result.now ≡ from_blank text.now }
+{
+    let start = first_blank(text);
+    &text[start..]
+}
+
+/// A text without its first column.
+fn after_column_1<'a>(text: &'a [u8]) -> &'a [u8]
+    ensures { result.now ≡ drop 1 text.now }
+{
+    match text {
+        [] => text,
+        [_, rest @ ..] => rest,
+    }
+}
+
 /// The name on a title or an end line.
 pub(crate) fn name_from<'a>(text: &'a [u8]) -> &'a [u8]
     ensures { result.now ≡ name_on text.now }
 {
-    match text {
-        [] => text,
-        [_, rest @ ..] => {
-            let end = first_blank(rest);
-            &rest[..end]
-        }
+    to_blank(after_column_1(text))
+}
+
+/// Word `k` of a title after its name, counted from 0. It is empty where the title has no such word.
+pub fn word<'a>(title: &Line<'a>, k: usize) -> &'a [u8]
+    ensures { result.now ≡ title_word title.now.text.now k }
+{
+    let mut rest = from_blank(after_column_1(title.text));
+    let mut left = k;
+    while left > 0 {
+        rest = from_blank(trim_front(rest));
+        left -= 1;
     }
+    to_blank(trim_front(rest))
 }
 
 /// Columns `from` to `to` of a line, counted from 1, without the blanks at both ends. Columns that the line lacks are blank.

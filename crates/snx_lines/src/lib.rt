@@ -3,11 +3,11 @@
 
 mod blocks;
 mod columns;
-mod framing;
+mod passing;
 
-pub use blocks::{Block, Frame, FrameCause, FrameError, FrameFault};
-pub use columns::{Kind, Line, field};
-pub use framing::frame;
+pub use blocks::{Block, Frame, FrameCause, FrameError, FrameFault, Framing};
+pub use columns::{Kind, Line, field, word};
+pub use passing::{frame, framing};
 
 #[cfg(test)]
 mod tests;

@@ -1,6 +1,6 @@
 //! Frames and columns of a small text.
 
-use crate::{Frame, FrameCause, FrameError, FrameFault, Kind, Line, field, frame};
+use crate::{Frame, FrameCause, FrameError, FrameFault, Kind, Line, field, frame, framing, word};
 use std::alloc::{AllocError, Global};
 use std::test::Fail;
 
@@ -114,6 +114,8 @@ fn blocks_and_columns(rt: HostRuntime) -> Result<(), Fail> {
         let last = whole.blocks.get(2).ok_or("last")?;
         assert_eq!(rt; last.name, b"SOLUTION/NORMAL_EQUATION_MATRIX".as_slice());
         assert_eq!(rt; last.title.number, 8);
+        assert_eq!(rt; word(&last.title, 0), b"L".as_slice());
+        assert_eq!(rt; word(&last.title, 1), b"".as_slice());
         assert_eq!(rt; last.body.len(), 1);
         let row = last.body.get(0).ok_or("row")?;
         assert_eq!(rt; row.number, 9);
@@ -122,6 +124,26 @@ fn blocks_and_columns(rt: HostRuntime) -> Result<(), Fail> {
         assert_eq!(rt; field(row, 14, 34), b".40000000000000E+01".as_slice());
         assert_eq!(rt; field(row, 58, 78), b"".as_slice());
     }
+    Ok(())
+}
+
+#[test]
+fn the_open_block_is_kept(rt: HostRuntime) -> Result<(), Fail> {
+    let some = LINES.get(..6).ok_or("lines")?;
+    let text = joined(rt.alloc(), some, b"\n")?;
+    if text.len() > 10_000 {
+        return Ok(());
+    }
+    let read = framing(rt.alloc(), &text)?;
+    let want = FrameFault {
+        line: 7,
+        cause: FrameCause::NoEnd,
+    };
+    assert_eq!(rt; read.stop, Some(want));
+    assert_eq!(rt; read.blocks.len(), 2);
+    let last = read.blocks.get(1).ok_or("last")?;
+    assert_eq!(rt; last.title.number, 5);
+    assert_eq!(rt; last.body.len(), 1);
     Ok(())
 }
 
