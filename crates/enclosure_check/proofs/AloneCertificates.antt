@@ -1,6 +1,6 @@
 -- The certificate is determined by the table, its pilot and the vector, and so is where it does not pass. It passes nowhere
 -- where it does not.
-use Rattle.std.proofs.Common.{◌≡◌, ◌≤◌, ◌<◌, ◌+◌, ◌*◌, ◌^◌, ◌∙◌, ℕ, ℤ, arith, sym, ap, subst, slice_index_or}
+use Rattle.std.proofs.Common.{◌≡◌, ◌<◌, ◌+◌, ◌*◌, ◌^◌, ◌∙◌, ℕ, ℤ, arith, sym, ap}
 use Rattle.whole_numbers.specs.Quotients.{up_over}
 use Rattle.whole_numbers.specs.Least.{greatest_to}
 use Rattle.stated_order.specs.First.{IsLeast}

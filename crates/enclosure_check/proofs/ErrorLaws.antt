@@ -1,6 +1,7 @@
 -- How large the words are that a vector leaves of the right side, and those that the pilot makes of them.
 use Rattle.std.proofs.Common.{◌≡◌, ℕ, ℤ, ◌+ℤ◌, ◌+◌, ◌-◌, ◌*◌, ◌≤◌, ◌<◌, ◌^◌, unsigned_abs, FitsSigned, arith, add-one, List, length, ap, refl, sym, subst, ◌∙◌}
 use Rattle.std.specs.Int.{w128}
+use Rattle.std.proofs.Math.Decide.{dec_lt}
 use Rattle.std.proofs.lemmas.Int.{fits_signed_from_abs}
 use Rattle.whole_numbers.specs.Quotients.{up_over}
 use Rattle.whole_numbers.specs.Intervals.{Interval, size, interval_add, interval_scale, interval_shift, sum_intervals}
@@ -74,6 +75,13 @@ row_error_is p r ws h i m t b len row is em et =
 -- what is least of one kind is least of another that is the same
 pub least_same : (P Q : ℕ → Type 0) (h : ℕ) → ((k : ℕ) → P k → Q k) → ((k : ℕ) → Q k → P k) → IsLeast P h → IsLeast Q h
 least_same P Q h to back l = record { here = to h l.here; before = λ k s q. l.before k s (back k q) }
+
+-- what comes before k lacks the property, and k has it below m: so k is the least, where m has it too
+pub least_to : (P : ℕ → Type 0) (m k : ℕ) → k ≤ m → ((j : ℕ) → j < k → ¬ (P j)) → (k < m → P k) → P m → IsLeast P k
+least_to P m k most before here last = record {
+  here = elim (dec_lt k m) [ yes h ↦ here h | no h ↦ (let e : m ≡ k = omega arith in subst P e last) ];
+  before = before;
+}
 
 -- the pilot may be multiplied with the shifted words
 pub left_shifted : (n : ℕ) (t : Table) (y : ℕ → ℤ) (ws vs : List Interval) (h : ℕ) → n ≤ 1000 → AreResiduals n t y ws → IsLeast (FitAfter ws) h → AreShifted h ws vs → AreShiftedResiduals n vs

@@ -15,9 +15,13 @@ use enclosures::Pilot;
 use interval_word::Iv;
 use std::alloc::{AllocError, Global};
 use sym_blocks::SymBlock;
+use whole_numbers::least_passed;
 
 /// The greatest size of a word that the pilot is multiplied with.
 const SHIFTED_LIMIT: u128 = 1 << 66;
+
+/// The shift after which any residual is at most that in size.
+pub const MOST_SHIFT: u32 = 60;
 
 /// The word at `k`.
 pub fn word_at(words: &[Iv], k: usize) -> Iv
@@ -103,11 +107,7 @@ fn least_shift(words: &[Iv]) -> u32
     ensures few { result ≤ 60 }
     ensures least { IsLeast (FitAfter words.now) result }
 {
-    let mut h = 0;
-    while h < 60 && !fit_after(words, h) {
-        h += 1;
-    }
-    h
+    least_passed(MOST_SHIFT, |h| fit_after(words, h))
 }
 
 /// The words after an outward shift by `h`.

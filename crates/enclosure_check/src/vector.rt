@@ -13,11 +13,11 @@ ghost use Rattle.enclosure_check.specs.declared.VectorError.TheVariants.{Memory}
 ghost use Rattle.stated_order.specs.First.{IsLeast};
 
 use crate::VectorError;
-use crate::row_errors::word_at;
+use crate::row_errors::{MOST_SHIFT, word_at};
 use enclosures::Pilot;
 use equil::Working;
 use std::alloc::{AllocError, AllocFailed, Global};
-use whole_numbers::{product, shift_floor};
+use whole_numbers::{least_passed, product, shift_floor};
 
 /// The greatest size of a number that the pilot is multiplied with.
 const SHIFTED_LIMIT: u128 = 1 << 66;
@@ -113,11 +113,7 @@ fn least_shift(numbers: &[i128]) -> u32
     ensures few { result ≤ 60 }
     ensures least { IsLeast (AllFitAfter (length numbers.now) (at numbers.now)) result }
 {
-    let mut h = 0;
-    while h < 60 && !fit_after(numbers, h) {
-        h += 1;
-    }
-    h
+    least_passed(MOST_SHIFT, |h| fit_after(numbers, h))
 }
 
 /// The numbers over 2^h, rounded down.

@@ -4,8 +4,8 @@ use Rattle.std.proofs.Math.Decide.{ℕ_discrete}
 use Rattle.std.proofs.lemmas.Grind.{get_or-set_at}
 use Rattle.std.proofs.lemmas.List.{get_or-set_other, get_or-take, get_or-drop, length-set, length-take, length-drop}
 use Rattle.std.proofs.lemmas.Nat.{mul-add-lt, same_from_place}
-use Rattle.whole_numbers.specs.Lists.{at, AllAtMost}
-use Rattle.whole_numbers.specs.Squares.{SquareTable, SetsNumber}
+use Rattle.whole_numbers.specs.Lists.{AllAtMost}
+use Rattle.whole_numbers.specs.Squares.{SetsNumber}
 
 -- a list keeps its bound where a number within it is written
 pub small_set : (a : ℕ) (ws : List ℤ) (p : ℕ) (v : ℤ) → AllAtMost a ws → unsigned_abs v ≤ a → AllAtMost a (slice_set ws p v)

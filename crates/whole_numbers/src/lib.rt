@@ -6,9 +6,11 @@
 ghost use Rattle.std.specs.Prelude.{◌≡◌, ℕ, ℤ, pos, ◌+ℤ◌, ◌-ℤ◌, ◌*ℤ◌, neg_ℤ, ◌≤ℤ◌, ◌<ℤ◌, ◌≤◌, ◌<◌, ◌*◌, ◌^◌, FitsSigned, unsigned_abs};
 ghost use Rattle.whole_numbers.specs.Quotients.{floor_over, ceil_over};
 
+mod least;
 mod scaling;
 mod squares;
 
+pub use least::least_passed;
 pub use scaling::{scale_ceil, scale_floor, ten_to};
 pub use squares::Square;
 

@@ -1,6 +1,6 @@
 use Rattle.std.proofs.lemmas.Result.{IfOk-weaker, IfErr-weaker}
 use Rattle.enclosure_check.specs.CertificateLists.{HasRadii, IsDefectRefused, IsRefusedOf, Certifies}
-use Rattle.enclosure_check.proofs.CertificateLaws.{certifies, defect_refused, large_refused}
+use Rattle.enclosure_check.proofs.CertificateLaws.{certifies, defect_refused}
 use Rattle.enclosure_check.proofs.certificates.certificate.Goals as goal
 
 pub returns-clause-certified : goal.returns-clause-certified

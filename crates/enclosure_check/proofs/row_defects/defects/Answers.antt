@@ -1,4 +1,4 @@
-use Rattle.std.proofs.Common.{arith, ◌≡◌, ◌<◌, ℕ, List, [], slice_index_or}
+use Rattle.std.proofs.Common.{arith, ◌≡◌, []}
 use Rattle.equil.specs.Tables.{table_of}
 use Rattle.enclosure_check.specs.Certificates.{parts_of}
 use Rattle.enclosure_check.proofs.DefectLaws.{turned_parts}

@@ -1,10 +1,12 @@
-use Rattle.std.proofs.Common.{arith, below_more}
-use Rattle.std.proofs.lemmas.Bool.{false≢true}
+use Rattle.std.proofs.Common.{rules}
 use Rattle.enclosure_check.specs.ErrorParts.{FitAfter}
+use Rattle.enclosure_check.proofs.ErrorLaws.{least_to}
 use Rattle.enclosure_check.proofs.row_errors.least_shift.Goals as goal
 
-pub loop-h-preserved : goal.loop-h-preserved
-loop-h-preserved c = record {
-  few = omega arith;
-  before = below_more (λ k. ¬ (FitAfter c.args.words.now k)) _ c.loop-h.invariant.before (λ f. false≢true (c.if-not-fit_after.ensures.1 f));
-}
+pub returns-clause-least : goal.returns-clause-least
+returns-clause-least c =
+    let words = c.args.words.now in
+    least_to (FitAfter words) 60 c.least_passed.result c.least_passed.ensures.few
+    (λ k less fits. let said = c.least_passed.ensures.before k less in search rules)
+    (λ less. let said = c.least_passed.ensures.here less in search rules)
+    (λ i within. let small = c.requires i within in search rules)

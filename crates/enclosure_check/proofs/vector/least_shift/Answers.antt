@@ -1,0 +1,13 @@
+use Rattle.std.proofs.Common.{rules, length}
+use Rattle.whole_numbers.specs.Lists.{at}
+use Rattle.enclosure_check.specs.Vectors.{AllFitAfter}
+use Rattle.enclosure_check.proofs.ErrorLaws.{least_to}
+use Rattle.enclosure_check.proofs.vector.least_shift.Goals as goal
+
+pub returns-clause-least : goal.returns-clause-least
+returns-clause-least c =
+    let numbers = c.args.numbers.now in
+    least_to (AllFitAfter (length numbers) (at numbers)) 60 c.least_passed.result c.least_passed.ensures.few
+    (λ k less fits. let said = c.least_passed.ensures.before k less in search rules)
+    (λ less. let said = c.least_passed.ensures.here less in search rules)
+    (λ i within. let small = c.requires i within in search rules)
