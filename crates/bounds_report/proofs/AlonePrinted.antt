@@ -22,15 +22,15 @@ module _ (n : ℕ) (e : ℕ → ℤ) (x0 : ℕ → Decimal) (y : ℕ → ℤ) (w
   pub printed_no_refusal : (t : Table) (ps : List Printed) (row : ℕ) → ArePrinted n t e x0 y w ps → IsPrintRefused n e x0 y w (Range row) → ⊥
   printed_no_refusal t ps row a b =
       elim b [
-        | inl r ↦ r.here (a.printable row r.within)
+        | inl r ↦ r.fails (a.printable row r.within)
         | inr r ↦ r.past (fewer_differences (suc row) n r.within a.differences)
       ]
 
   no_earlier : (row col : ℕ) → IsPrintRefused n e x0 y w (Range row) → IsPrintRefused n e x0 y w (Range col) → col < row → ⊥
   no_earlier row col a b l =
       elim b [
-        | inl r ↦ r.here (elim a [ inl s ↦ s.before col l | inr s ↦ s.printable col r.within ])
-        | inr r ↦ elim a [ inl s ↦ s.here (r.printable row s.within) | inr s ↦ r.past (fewer_differences (suc col) row l s.before) ]
+        | inl r ↦ r.fails (elim a [ inl s ↦ s.before col l | inr s ↦ s.printable col r.within ])
+        | inr r ↦ elim a [ inl s ↦ s.fails (r.printable row s.within) | inr s ↦ r.past (fewer_differences (suc col) row l s.before) ]
       ]
 
   pub print_refusal_alone : (row col : ℕ) → IsPrintRefused n e x0 y w (Range row) → IsPrintRefused n e x0 y w (Range col) → row ≡ col
