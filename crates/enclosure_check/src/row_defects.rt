@@ -2,7 +2,6 @@
 
 ghost use Rattle.std.specs.Prelude.{◌≡◌, ◌≤◌, ◌<◌, ◌+◌, ◌*◌, ◌^◌, ℕ, pos, ◌+ℤ◌, ◌-ℤ◌, List, length, unsigned_abs, FitsSigned, IfOk};
 ghost use Rattle.std.specs.Int.{w128};
-ghost use Rattle.std.specs.Vec.{vec_len};
 ghost use Rattle.whole_numbers.specs.Quotients.{up_over};
 ghost use Rattle.whole_numbers.specs.Sum.{unit};
 ghost use Rattle.whole_numbers.specs.Intervals.{Interval, point_interval, interval_add, interval_sub, interval_scale, size};
@@ -18,6 +17,7 @@ use equil::Working;
 use std::alloc::{AllocError, Global};
 use std::marker::Model;
 use sym_blocks::SymBlock;
+use whole_numbers::Square;
 
 /// The ends of a word or of a sum of words.
 #[derive(Clone, Copy)]
@@ -171,35 +171,23 @@ pub fn row_defect<const N: usize>(w: &Working<N>, p: &Pilot, i: usize) -> u64
     parts(total, g)
 }
 
-/// The ends of the words of a table, row by row.
+/// The low and the high ends of the words of a table, row by row.
 #[derive(Drop)]
 struct Squares {
-    size: usize,
-    low: Vec<i64>,
-    high: Vec<i64>,
-    ghost few: { size ≤ 1000 },
-    ghost lows: { vec_len low ≡ size * size },
-    ghost highs: { vec_len high ≡ size * size },
-    ghost low_ends: { AllAtMost (2 ^ 61) low.items },
-    ghost high_ends: { AllAtMost (2 ^ 61) high.items },
-}
-
-/// A row of a square.
-fn row_of(numbers: &[i64], size: usize, j: usize) -> &[i64]
-    requires square { length numbers.now ≡ size * size }
-    requires row { j < size }
-    ensures len { length result.now ≡ size }
-    ensures numbers { (k : ℕ) → k < size → at result.now k ≡ at numbers.now (j * size + k) }
-{
-    &numbers[j * size..(j + 1) * size]
+    low: Square,
+    high: Square,
+    ghost few: { low.size ≤ 1000 },
+    ghost same_size: { high.size ≡ low.size },
+    ghost low_ends: { AllAtMost (2 ^ 61) low.numbers },
+    ghost high_ends: { AllAtMost (2 ^ 61) high.numbers },
 }
 
 impl Squares {
     /// The ends of the words of a table. Only memory can be wanting.
     fn of<const N: usize>(alloc: Global, a: &SymBlock<N>) -> Result<Squares, AllocError>
         requires { IsWorkingTable a.now }
-        ensures size { IfOk result (λ s. s.size ≡ a.now.size) }
-        ensures words { IfOk result (λ s. HasWords a.now.size a.now s.low.items s.high.items) }
+        ensures size { IfOk result (λ s. s.low.size ≡ a.now.size) }
+        ensures words { IfOk result (λ s. HasWords a.now.size a.now s.low.numbers s.high.numbers) }
     {
         let size = a.size();
         let mut low = Vec::new(alloc);
@@ -209,29 +197,28 @@ impl Squares {
             low.push(lo)?;
             high.push(hi)?;
         }
-        Ok(Squares { size, low, high })
+        Ok(Squares {
+            low: Square::new(size, low),
+            high: Square::new(size, high),
+        })
     }
 
     /// The sum of the products of the numbers of a row and the words of row `j`.
     fn row_products(&self, r: &[i64], j: usize) -> Ends
-        requires len { length r.now ≡ self.now.size }
+        requires len { length r.now ≡ self.now.low.size }
         requires numbers { AllAtMost (2 ^ 50) r.now }
-        requires row { j < self.now.size }
-        ensures value { result ≡ products_to self.now.size (at r.now) (λ k. word_between self.now.low.items self.now.high.items (j * self.now.size + k)) }
+        requires row { j < self.now.low.size }
+        ensures value { result ≡ products_to self.now.low.size (at r.now) (λ k. word_between self.now.low.numbers self.now.high.numbers (j * self.now.low.size + k)) }
         ensures small { size result ≤ 2 ^ 121 }
     {
-        products(
-            r,
-            row_of(&self.low, self.size, j),
-            row_of(&self.high, self.size, j),
-        )
+        products(r, self.low.row(j), self.high.row(j))
     }
 
     /// The defect of row `i` of the pilot, in parts of 2^30, rounded up.
     fn row_parts(&self, p: &Pilot, i: usize) -> u64
-        requires sizes { p.now.size ≡ self.now.size }
-        requires row { i < self.now.size }
-        ensures { result ≡ parts_of self.now.size (turned_table self.now.size self.now.low.items self.now.high.items) p.now i }
+        requires sizes { p.now.size ≡ self.now.low.size }
+        requires row { i < self.now.low.size }
+        ensures { result ≡ parts_of self.now.low.size (turned_table self.now.low.size self.now.low.numbers self.now.high.numbers) p.now i }
     {
         let g = p.g();
         let r = p.row(i);

@@ -1,4 +1,4 @@
-use Rattle.std.proofs.Common.{arith, rules, ◌≡◌, ◌*◌, ◌<◌, ℕ, subst, FitsSigned, w64}
+use Rattle.std.proofs.Common.{arith, rules, ◌≡◌, ◌∙◌, ◌*◌, ◌<◌, ℕ, ap, sym, subst, FitsSigned, w64}
 use Rattle.std.proofs.lemmas.Int.{to_z-of_z}
 use Rattle.enclosure_check.proofs.DefectLaws.{StandAt, ends_push, ends_small, words_of_rows}
 use Rattle.enclosure_check.proofs.row_defects.Squares.of.Goals as goal
@@ -28,11 +28,10 @@ invariant_of-result g c =
     let each = subst (StandAt n a l.items h.items) end c.loop-place.invariant.words in
     let small = λ (x : ℕ) (b : x < n * n). ends_small n a l.items h.items x (λ i j p q. c.requires.small i j (omega (arith, c.size-size.ensures.value)) (omega (arith, c.size-size.ensures.value))) each b in
     record {
-      few = omega (arith, c.size-size.ensures.bound);
-      lows = omega (arith, c.loop-place.invariant.lows, end);
-      highs = omega (arith, c.loop-place.invariant.highs, end);
-      low_ends = λ x b. omega (arith, small x (omega (arith, c.loop-place.invariant.lows, l.ok.0, end)));
-      high_ends = λ x b. omega (arith, small x (omega (arith, c.loop-place.invariant.highs, h.ok.0, end)));
+      few = omega (arith, ap (λ s. s.size) c.new.ensures, c.size-size.ensures.bound);
+      same_size = ap (λ s. s.size) c.new-2.ensures ∙ sym (ap (λ s. s.size) c.new.ensures);
+      low_ends = rw c.new.ensures (λ x b. omega (arith, small x (omega (arith, c.loop-place.invariant.lows, l.ok.0, end))));
+      high_ends = rw c.new-2.ensures (λ x b. omega (arith, small x (omega (arith, c.loop-place.invariant.highs, h.ok.0, end))));
     }
 
 pub returns-clause-words : goal.returns-clause-words
@@ -42,4 +41,4 @@ returns-clause-words g c =
     let h = c.loop-place.high in
     let end : c.loop-place.place ≡ n * n = omega arith in
     let each = subst (StandAt n c.args.a.now l.items h.items) end c.loop-place.invariant.words in
-    rw (← c.size-size.ensures.value) (words_of_rows n c.args.a.now l.items h.items each)
+    rw (c.new.ensures, c.new-2.ensures, ← c.size-size.ensures.value) (words_of_rows n c.args.a.now l.items h.items each)

@@ -5,4 +5,4 @@ use Rattle.enclosure_check.specs.Defects.{word_between, products_to, clipped_lef
 use Rattle.enclosure_check.proofs.row_defects.Squares.row_parts.Given as goal
 
 abbrev pub invariant-loop-j : goal.invariant-loop-j
-invariant-loop-j l = l.total ≡ total_to l.j (λ j. clipped_left l.g l.i j (products_to l.self.size (at l.r) (λ k. word_between l.self.low.items l.self.high.items (j * l.self.size + k))))
+invariant-loop-j l = l.total ≡ total_to l.j (λ j. clipped_left l.g l.i j (products_to l.self.low.size (at l.r) (λ k. word_between l.self.low.numbers l.self.high.numbers (j * l.self.low.size + k))))
