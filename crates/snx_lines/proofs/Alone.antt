@@ -1,4 +1,4 @@
--- A text has one framing, and the lines of its blocks stand in their order before its first bad line.
+-- A text has one framing and no other, and the lines of its blocks stand in their order before its first bad line.
 use Rattle.std.proofs.Common.{◌≡◌, ◌<◌, ◌≤◌, ◌+◌, ℕ, suc, zero, true, false, List, [], ◌∷◌, ◌++◌, length, take, Option, Some, None, refl, sym, ap, ◌∙◌, subst, inl, inr, arith, All, map, Ok, Err}
 use Rattle.std.specs.Prelude.{Result, IfOk}
 use Rattle.std.specs.declared.alloc.AllocError.{AllocError}
@@ -7,13 +7,15 @@ use Rattle.std.proofs.lemmas.List.{take_all}
 use Rattle.std.proofs.lemmas.List.Elements.{All-nil, All-cons}
 use Rattle.std.proofs.lemmas.Bool.{cases_Bool}
 use Rattle.stated_order.specs.First.{HoldsBelow}
+use Rattle.stated_order.specs.Steps.{HasOne}
 use Rattle.stated_order.specs.Lists.{Ascends}
 use Rattle.stated_order.proofs.FirstLaws.{neither_less}
 use Rattle.snx_lines.specs.Lines.{PlainLine, line_at, numbered, cut, lines_in}
 use Rattle.snx_lines.specs.Framing.{is_title, is_end, is_mark, is_body, cause_at, IsGoodAt, data_lines, PlainBlock, PlainFraming, blocks_of, IsFraming, StopsAt, lines_held, StandsBefore, StandBelow}
 use Rattle.snx_lines.proofs.BlockLaws.{data_marked, data_body, data_other, blocks_title, blocks_other, title_marks}
 use Rattle.snx_lines.specs.Views.{framing_view}
-use Rattle.snx_lines.specs.Passing.{fault_at}
+use Rattle.snx_lines.specs.Passing.{State, start, kept, next_cause, text_end_cause, framed, fault_at}
+use Rattle.snx_lines.proofs.Passed.{SoFar, begun, one_more, stopped, ended}
 use Rattle.snx_lines.specs.declared.blocks.Framing.{Framing}
 use Rattle.snx_lines.specs.declared.blocks.FrameFault.{FrameFault}
 use Rattle.snx_lines.specs.declared.blocks.FrameCause.{FrameCause}
@@ -120,6 +122,18 @@ framed_below texts framing f = by framing.stop f.stop
     by : (stop : Option FrameFault) → StopsAt (numbered 1 texts) f.place stop → StandBelow stop (lines_held framing.blocks)
     by None s = tt
     by (Some fault) s = below_by 1 (1 + f.place) fault.line _ (omega (arith, s.2)) (framed_within texts framing f)
+
+-- each text has a framing
+has_by : (all : List PlainLine) (rest : List (List ℕ)) (state : State) → SoFar all state rest → HasOne (IsFraming all)
+has_by all [] state s = (framed state (text_end_cause state), ended all state s)
+has_by all (text ∷ rest) state s = by (next_cause state (cut text)) refl (has_by all rest)
+  where
+    by : (o : Option FrameCause) → next_cause state (cut text) ≡ o → ((next : State) → SoFar all next rest → HasOne (IsFraming all)) → HasOne (IsFraming all)
+    by None e more = more (kept state (cut text)) (one_more all state text rest s e)
+    by (Some cause) e more = (framed state (Some cause), stopped all state text rest cause s e)
+
+pub has_framing : (text : List ℕ) → HasOne (IsFraming (lines_in text))
+has_framing text = has_by (lines_in text) (map without_terminator (lines_of text)) start (begun (map without_terminator (lines_of text)))
 
 -- what the call answers
 pub framed_by : (r : Result Framing AllocError) (lines : List PlainLine) (framing : PlainFraming) → IfOk r (λ f. framing_view f ≡ framing) → IsFraming lines framing → IfOk r (λ f. IsFraming lines (framing_view f))
