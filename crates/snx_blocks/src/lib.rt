@@ -1,0 +1,11 @@
+//! The blocks of a SINEX text: what their lines say.
+#![tactic(auto)]
+
+mod causes;
+mod indices;
+mod rows;
+mod steps;
+
+pub use causes::{Cause, LineFault};
+pub use indices::read_index;
+pub use rows::{Row, Shape, one_row, read_row};
