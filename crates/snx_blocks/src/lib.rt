@@ -9,3 +9,6 @@ mod steps;
 pub use causes::{Cause, LineFault};
 pub use indices::read_index;
 pub use rows::{Row, Shape, one_row, read_row};
+
+#[cfg(test)]
+mod tests;
