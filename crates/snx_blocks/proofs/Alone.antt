@@ -1,5 +1,5 @@
 -- A line is one row at most or has one fault, and never both.
-use Rattle.std.proofs.Common.{◌≡◌, ◌⊎◌, inl, inr, ◌∙◌, ◌∷◌, ◌^◌, ℕ, List, [], Option, Some, IsSome, IsNone, is_some, true, false, Result, Ok, Err, sym, ap, refl}
+use Rattle.std.proofs.Common.{◌≡◌, inl, inr, ◌∙◌, ◌∷◌, ℕ, List, [], Option, Some, IsSome, IsNone, is_some, true, false, Result, Ok, Err, sym, ap, refl}
 use Rattle.stated_order.specs.Steps.{IsOne}
 use Rattle.stated_order.proofs.StepLaws.{then_is_one, gives_or_refuses}
 use Rattle.snx_epoch.specs.Moments.{epoch_in}
@@ -9,13 +9,11 @@ use Rattle.snx_lines.specs.Lines.{PlainLine, columns}
 use Rattle.param_ids.specs.Texts.{kind_text, code_text, point_text, soln_text}
 use Rattle.param_ids.specs.Plain.{PlainId}
 use Rattle.param_ids.specs.Ids.{IsNameOf, IsNamed, IsReadAs}
-use Rattle.param_ids.specs.declared.ids.IdFault.{IdFault}
 use Rattle.param_ids.specs.declared.ids.IdFault.TheVariants as names
 use Rattle.decimal_e.specs.Decimals.{Decimal}
 use Rattle.decimal_e.specs.Answers.{IsAnswer}
 use Rattle.decimal_e.proofs.Outcomes.{one_answer_of}
-use Rattle.snx_blocks.specs.Rows.{Renamed, name_cause, fault_at, not_negative, IsIndexOn, IsNameOn, IsUnitOn, IsNumber, IsValueOn, IsSized, IsDeviation, IsDeviationOn, IsRead, IsRow}
-use Rattle.snx_blocks.specs.declared.causes.Cause.{Cause}
+use Rattle.snx_blocks.specs.Rows.{Renamed, name_cause, fault_at, IsNumber, IsSized, IsDeviation, IsDeviationOn, IsRead, IsRow}
 use Rattle.snx_blocks.specs.declared.causes.Cause.TheVariants as causes
 use Rattle.snx_blocks.specs.declared.rows.Shape.{Shape}
 use Rattle.snx_blocks.specs.declared.rows.Shape.TheVariants.{Value, Vector}
