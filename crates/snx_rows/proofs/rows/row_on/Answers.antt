@@ -1,7 +1,7 @@
 use Rattle.std.proofs.lemmas.Result.{err_from_is_err_and}
 use Rattle.snx_lines.specs.Views.{line_view}
-use Rattle.snx_blocks.proofs.Chain.{no_name, no_unit, no_value, no_size, no_deviation, whole_row}
-use Rattle.snx_blocks.proofs.rows.row_on.Goals as goal
+use Rattle.snx_rows.proofs.Chain.{no_name, no_unit, no_value, no_size, no_deviation, whole_row}
+use Rattle.snx_rows.proofs.rows.row_on.Goals as goal
 
 pub returns-in_err-id : goal.returns-in_err-id
 returns-in_err-id c =

@@ -4,7 +4,7 @@ ghost use Rattle.std.specs.Prelude.{◌≡◌, ◌≤◌, length, true};
 ghost use Rattle.std.specs.List.{list_all};
 ghost use Rattle.std.specs.Char.{is_ascii_digit};
 ghost use Rattle.decimal_e.specs.Digits.{number};
-ghost use Rattle.snx_blocks.specs.Indices.{index_of, index_on};
+ghost use Rattle.snx_rows.specs.Indices.{index_of, index_on};
 
 use snx_lines::{Line, field};
 

@@ -1,7 +1,7 @@
 -- The rows of the blocks of estimates, a priori values and right sides: what a line says, in the order in which it is tested
 -- (SINEX 2.02 format description).
 use Rattle.std.specs.Prelude.{◌≡◌, ◌^◌, ◌∷◌, ℕ, pos, int_lt, if◌then◌else◌, List, [], Option, Some, None, Result, Ok, Err}
-use Rattle.stated_order.specs.Steps.{IsOne, Then}
+use Rattle.stated_order.specs.Steps.{IsOne, Then, Renamed}
 use Rattle.snx_lines.specs.Lines.{PlainLine, columns}
 use Rattle.param_ids.specs.Plain.{PlainId}
 use Rattle.param_ids.specs.Ids.{IsReadAs}
@@ -12,18 +12,13 @@ use Rattle.decimal_e.specs.Decimals.{Decimal}
 use Rattle.decimal_e.specs.Fractions.{IsAtMost}
 use Rattle.decimal_e.specs.Answers.{IsAnswer}
 use Rattle.decimal_e.specs.declared.read.DecFault.TheVariants.{Char}
-use Rattle.snx_blocks.specs.Indices.{index_on}
-use Rattle.snx_blocks.specs.declared.causes.Cause.{Cause}
-use Rattle.snx_blocks.specs.declared.causes.Cause.TheVariants as causes
-use Rattle.snx_blocks.specs.declared.causes.LineFault.{LineFault}
-use Rattle.snx_blocks.specs.declared.rows.Shape.{Shape}
-use Rattle.snx_blocks.specs.declared.rows.Shape.TheVariants.{Value, Vector}
-use Rattle.snx_blocks.specs.declared.rows.Row.{Row}
-
--- a step whose refusals have other names here
-abbrev pub Renamed : {X E C : Type 0} → (E → C) → (Result X E → Type 0) → Result X C → Type 0
-Renamed rename step (Ok x) = step (Ok x)
-Renamed {E = E} rename step (Err cause) = (fault : E) × step (Err fault) × (cause ≡ rename fault)
+use Rattle.snx_rows.specs.Indices.{index_on}
+use Rattle.snx_rows.specs.declared.causes.Cause.{Cause}
+use Rattle.snx_rows.specs.declared.causes.Cause.TheVariants as causes
+use Rattle.snx_rows.specs.declared.causes.LineFault.{LineFault}
+use Rattle.snx_rows.specs.declared.rows.Shape.{Shape}
+use Rattle.snx_rows.specs.declared.rows.Shape.TheVariants.{Value, Vector}
+use Rattle.snx_rows.specs.declared.rows.Row.{Row}
 
 -- what is there, or the cause where nothing is
 abbrev pub or_cause : {X : Type 0} → Cause → Option X → Result X Cause

@@ -2,8 +2,8 @@ use Rattle.std.proofs.Common.{◌≡◌, ◌+◌, ◌*◌, ◌<◌, ◌^◌, ari
 use Rattle.std.proofs.lemmas.List.{take_more}
 use Rattle.decimal_e.specs.Digits.{number}
 use Rattle.decimal_e.proofs.Numbers.{number_push}
-use Rattle.snx_blocks.proofs.Digits.{digit_at, one_more}
-use Rattle.snx_blocks.proofs.indices.number_of.Goals as goal
+use Rattle.snx_rows.proofs.Digits.{digit_at, one_more}
+use Rattle.snx_rows.proofs.indices.number_of.Goals as goal
 
 pub loop-byte-preserved : goal.loop-byte-preserved
 loop-byte-preserved c =

@@ -1,7 +1,7 @@
 //! The fields of a row, each with its cause.
 
 ghost use Rattle.std.specs.Prelude.{◌≡◌};
-ghost use Rattle.snx_blocks.specs.Rows.{name_cause, IsIndexOn, IsNameOn, IsUnitOn, IsNumber, IsValueOn, IsSized, IsDeviation, IsDeviationOn, not_negative};
+ghost use Rattle.snx_rows.specs.Rows.{name_cause, IsIndexOn, IsNameOn, IsUnitOn, IsNumber, IsValueOn, IsSized, IsDeviation, IsDeviationOn, not_negative};
 
 use crate::causes::Cause;
 use crate::indices::read_index;

@@ -3,9 +3,9 @@ use Rattle.std.proofs.Common.{◌≡◌, ◌∷◌, ◌==◌, ℕ, List, [], len
 use Rattle.snx_lines.specs.Lines.{PlainLine}
 use Rattle.param_ids.specs.Plain.{PlainId}
 use Rattle.decimal_e.specs.Decimals.{Decimal}
-use Rattle.snx_blocks.specs.Rows.{IsIndexOn, IsNameOn, IsUnitOn, IsNumber, IsValueOn, IsSized, IsDeviation, IsDeviationOn, IsRead, not_negative}
-use Rattle.snx_blocks.specs.declared.causes.Cause.{Cause}
-use Rattle.snx_blocks.specs.declared.rows.Shape.{Shape}
+use Rattle.snx_rows.specs.Rows.{IsIndexOn, IsNameOn, IsUnitOn, IsNumber, IsValueOn, IsSized, IsDeviation, IsDeviationOn, IsRead, not_negative}
+use Rattle.snx_rows.specs.declared.causes.Cause.{Cause}
+use Rattle.snx_rows.specs.declared.rows.Shape.{Shape}
 
 -- ---- a deviation that is not blank
 pub deviation_read : (text : List ℕ) (d : Decimal) (r : Result (Option Decimal) Cause) → (length text == 0) ≡ false → IsNumber text (Ok d) → r ≡ not_negative d → IsDeviation text r

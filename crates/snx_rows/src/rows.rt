@@ -1,7 +1,7 @@
 //! Rows of parameters.
 
 ghost use Rattle.snx_lines.specs.Views.{line_view};
-ghost use Rattle.snx_blocks.specs.Rows.{IsRead, IsRow, OneRow};
+ghost use Rattle.snx_rows.specs.Rows.{IsRead, IsRow, OneRow};
 
 use crate::causes::{Cause, LineFault};
 use crate::steps::{deviation_on, index_on, name_on, sized, unit_on, value_on};

@@ -1,6 +1,6 @@
 use Rattle.std.proofs.Common.{◌∙◌, sym}
-use Rattle.snx_blocks.proofs.Chain.{deviation_read, deviation_unread}
-use Rattle.snx_blocks.proofs.steps.deviation_in.Goals as goal
+use Rattle.snx_rows.proofs.Chain.{deviation_read, deviation_unread}
+use Rattle.snx_rows.proofs.steps.deviation_in.Goals as goal
 
 pub returns-in-Ok : goal.returns-in-Ok
 returns-in-Ok c =

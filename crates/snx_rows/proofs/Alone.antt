@@ -1,7 +1,7 @@
 -- A line is one row at most or has one fault, and never both.
 use Rattle.std.proofs.Common.{◌≡◌, inl, inr, ◌∙◌, ◌∷◌, ℕ, List, [], Option, Some, IsSome, IsNone, is_some, true, false, Result, Ok, Err, sym, ap, refl}
 use Rattle.stated_order.specs.Steps.{IsOne}
-use Rattle.stated_order.proofs.StepLaws.{then_is_one, gives_or_refuses}
+use Rattle.stated_order.proofs.StepLaws.{then_is_one, renamed_is_one}
 use Rattle.snx_epoch.specs.Moments.{epoch_in}
 use Rattle.snx_epoch.specs.declared.Epoch.{Epoch}
 use Rattle.snx_epoch.specs.declared.EpochFault.{EpochFault}
@@ -13,23 +13,10 @@ use Rattle.param_ids.specs.declared.ids.IdFault.TheVariants as names
 use Rattle.decimal_e.specs.Decimals.{Decimal}
 use Rattle.decimal_e.specs.Answers.{IsAnswer}
 use Rattle.decimal_e.proofs.Outcomes.{one_answer_of}
-use Rattle.snx_blocks.specs.Rows.{Renamed, name_cause, fault_at, IsNumber, IsSized, IsDeviation, IsDeviationOn, IsRead, IsRow}
-use Rattle.snx_blocks.specs.declared.causes.Cause.TheVariants as causes
-use Rattle.snx_blocks.specs.declared.rows.Shape.{Shape}
-use Rattle.snx_blocks.specs.declared.rows.Shape.TheVariants.{Value, Vector}
-
--- ---- renamed refusals
-ok_same : {X E : Type 0} (x y : X) → (let r : Result X E = Ok x in let s : Result X E = Ok y in r ≡ s) → x ≡ y
-ok_same x y e = cc
-
-err_same : {X E : Type 0} (c d : E) → (let r : Result X E = Err c in let s : Result X E = Err d in r ≡ s) → c ≡ d
-err_same c d e = cc
-
-pub renamed_is_one : {X E C : Type 0} (rename : E → C) (step : Result X E → Type 0) → IsOne step → IsOne (Renamed rename step)
-renamed_is_one rename step one (Ok x) (Ok y) a b = ap Ok (ok_same x y (one (Ok x) (Ok y) a b))
-renamed_is_one rename step one (Ok x) (Err d) a b = absurd (gives_or_refuses step x b.0 one a b.1)
-renamed_is_one rename step one (Err c) (Ok y) a b = absurd (gives_or_refuses step y a.0 one b a.1)
-renamed_is_one rename step one (Err c) (Err d) a b = ap Err (a.2 ∙ ap rename (err_same a.0 b.0 (one (Err a.0) (Err b.0) a.1 b.1)) ∙ sym b.2)
+use Rattle.snx_rows.specs.Rows.{name_cause, fault_at, IsNumber, IsSized, IsDeviation, IsDeviationOn, IsRead, IsRow}
+use Rattle.snx_rows.specs.declared.causes.Cause.TheVariants as causes
+use Rattle.snx_rows.specs.declared.rows.Shape.{Shape}
+use Rattle.snx_rows.specs.declared.rows.Shape.TheVariants.{Value, Vector}
 
 -- ---- a name
 some_same : {X : Type 0} (o : Option X) (x y : X) → o ≡ Some x → o ≡ Some y → x ≡ y
