@@ -1,8 +1,12 @@
 //! Why a line is bad.
 
+ghost use Rattle.std.specs.Prelude.{◌≡◌};
+ghost use Rattle.snx_rows.specs.declared.causes.DocError.TheVariants.{Memory};
+
 use decimal_e::DecFault;
 use snx_epoch::EpochFault;
 use snx_lines::FrameCause;
+use std::alloc::{AllocError, AllocFailed};
 use thiserror::Error;
 
 /// Why a line is bad.
@@ -48,4 +52,31 @@ pub struct LineFault {
     pub line: u32,
     /// Why it is bad.
     pub cause: Cause,
+}
+
+/// Why a reader of lines answers nothing.
+#[derive(Debug, Drop, Error)]
+pub enum DocError {
+    /// The first bad line.
+    #[error("{0}")]
+    Line(LineFault),
+    /// Want of memory.
+    #[error("out of memory")]
+    Memory,
+}
+
+impl From<AllocError> for DocError {
+    ghost from_gives = { λ _ r. r ≡ Memory };
+
+    fn from(_refusal: AllocError) -> DocError {
+        DocError::Memory
+    }
+}
+
+impl<T: Drop> From<AllocFailed<T>> for DocError {
+    ghost from_gives = { λ _ r. r ≡ Memory };
+
+    fn from(_refusal: AllocFailed<T>) -> DocError {
+        DocError::Memory
+    }
 }

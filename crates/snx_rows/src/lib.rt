@@ -1,12 +1,14 @@
 //! The blocks of a SINEX text: what their lines say.
 #![tactic(auto)]
 
+mod blocks;
 mod causes;
 mod indices;
 mod rows;
 mod steps;
 
-pub use causes::{Cause, LineFault};
+pub use blocks::read_rows;
+pub use causes::{Cause, DocError, LineFault};
 pub use indices::read_index;
 pub use rows::{Row, Shape, one_row, read_row};
 
