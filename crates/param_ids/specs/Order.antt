@@ -1,7 +1,7 @@
 -- The order of names, and lists of names in it.
-use Rattle.std.specs.Prelude.{◌≤◌, List, length}
+use Rattle.std.specs.Prelude.{◌≤◌, Bool, List, length}
 use Rattle.std.specs.List.Sorted.{IsStrictlySortedBy}
-use Rattle.std.specs.Ordering.{nat_cmp, ordering_then}
+use Rattle.std.specs.Ordering.{nat_cmp, ordering_then, is_eq}
 use Rattle.std.specs.Cmp.Lexicographic.{slice_cmp}
 use Rattle.std.specs.declared.cmp.Ordering.{Ordering}
 use Rattle.snx_epoch.specs.Moments.{epoch_cmp}
@@ -15,6 +15,10 @@ id_cmp a b =
     (ordering_then (slice_cmp nat_cmp a.point b.point)
     (ordering_then (slice_cmp nat_cmp a.soln b.soln)
     (epoch_cmp a.epoch b.epoch))))
+
+-- whether neither of two names stands below the other: then they are one name (`same_id` in `proofs/SameIds.antt`)
+abbrev pub is_same_id : PlainId → PlainId → Bool
+is_same_id a b = is_eq (id_cmp a b)
 
 -- each name stands below those after it, so none stands twice
 abbrev pub IsRising : List PlainId → Type 0
