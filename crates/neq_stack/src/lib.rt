@@ -1,0 +1,28 @@
+//! Normal equations by the names of their parameters.
+#![tactic(auto)]
+
+use decimal_e::Dec;
+use interval_word::Iv;
+use param_ids::Names;
+use sym_blocks::SymBlock;
+
+/// Normal equations of some parameters, in intervals: the matrix and the right side of `N (x - x0) = b`.
+///
+/// Each list has an entry for each name, in the order of the names, and the table a row for each. With scale exponents t the
+/// interval of the table at (i, j) stands for the element of N times `10^(18 - t_i - t_j)`, that of the right side at i for the
+/// element of b times `10^(18 - t_i)`.
+#[derive(Drop)]
+pub struct Neq<const N: usize> {
+    /// The names of the parameters, in order.
+    pub names: Names,
+    /// The matrix.
+    pub table: SymBlock<N>,
+    /// The right side.
+    pub right: Vec<Iv>,
+    /// The a priori values x0, each at most 10^12 in size.
+    pub apriori: Vec<Dec>,
+    /// The units of the parameters, with blanks behind them.
+    pub units: Vec<[u8; 4]>,
+    /// The scale exponents, from -4 to 6.
+    pub scales: Vec<i32>,
+}

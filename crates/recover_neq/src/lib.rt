@@ -1,0 +1,68 @@
+//! From documents to normal equations in intervals by name.
+#![tactic(auto)]
+
+ghost use Rattle.std.specs.Prelude.{◌≡◌, ◌⊎◌, ℕ, length, IfOk, IfErr, Ok, Err};
+ghost use Rattle.whole_numbers.specs.Lists.{at};
+ghost use Rattle.equil.specs.Tables.{table_of};
+ghost use Rattle.sys_model.specs.Scaling.{LiesInStack};
+ghost use Rattle.sys_model.specs.Systems.{System};
+ghost use Rattle.snx_blocks.specs.Documents.{IsValid};
+ghost use Rattle.snx_blocks.specs.Views.{doc_view};
+ghost use Rattle.neq_stack.specs.Neqs.{IsSound, neq_view};
+ghost use Rattle.recover_neq.specs.Recovery.{IsRecovered};
+ghost use Rattle.recover_neq.specs.Exact.{IsExact};
+
+use neq_stack::Neq;
+use param_ids::{ParamId, Scales};
+use snx_blocks::{Doc, Section};
+use std::alloc::Global;
+use thiserror::Error;
+
+/// Why a document has no normal equations.
+#[derive(Clone, Copy, Debug, PartialEq, Eq, Error)]
+pub enum RecoverFault {
+    /// The document lacks a block that is needed.
+    #[error("a block is missing")]
+    MissingBlock { block: Section },
+    /// The right side has a row of this name, and the a priori values have none: the first such row.
+    #[error("no a priori value")]
+    Unmatched { id: ParamId },
+    /// There is no row.
+    #[error("no row")]
+    Empty,
+    /// The interval for these names passes 10^34 in size. One of the right side names its row twice.
+    #[error("a number is too great")]
+    Range { row: ParamId, col: ParamId },
+}
+
+/// Why the normal equations of a document are not answered.
+#[derive(Debug, Drop, Error)]
+pub enum RecoverError {
+    /// It has none.
+    #[error("{0}")]
+    Fault(RecoverFault),
+    /// Want of memory.
+    #[error("out of memory")]
+    Memory,
+}
+
+/// The normal equations of a document, in intervals by name, the a priori values being the document's.
+///
+/// # Errors
+///
+/// The first cause for which it has none: MissingBlock for the a priori values, the right side, the matrix; Unmatched; Empty;
+/// Range, for the matrix row by row up to the diagonal in the order of the names, then for the right side; or want of memory.
+pub fn recover<const N: usize>(
+    alloc: Global,
+    doc: &Doc,
+    scales: &Scales,
+) -> Result<Neq<N>, RecoverError>
+    requires { IsValid (doc_view doc.now) }
+    ensures neq { IfOk result (λ neq. IsRecovered (doc_view doc.now) scales.now (Ok (neq_view neq))) }
+    ensures sound { IfOk result (λ neq. IsSound (neq_view neq)) }
+    ensures refused { IfErr result (λ cause. (cause ≡ RecoverError.Memory) ⊎ ((fault : RecoverFault) × (cause ≡ RecoverError.Fault fault) × IsRecovered (doc_view doc.now) scales.now (Err fault))) }
+    ensures exact { IfOk result (λ neq. (S : System) → IsExact (doc_view doc.now) neq.names S → LiesInStack (length neq.names) (table_of neq.table neq.right.items) (at neq.scales.items) S) }
+    ensures exact_exists { IfOk result (λ neq. (S : System) × IsExact (doc_view doc.now) neq.names S) }
+{
+    Err(RecoverError::Memory)
+}
