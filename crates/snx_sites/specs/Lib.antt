@@ -1,0 +1,3 @@
+pub mod Plain
+pub mod Sites
+pub mod Views
