@@ -1,5 +1,5 @@
 -- From a document with normal equations to intervals by name, or the first cause for which it has none.
-use Rattle.std.specs.Prelude.{◌≡◌, ◌≤◌, ◌^◌, ◌⊎◌, ◌==◌, ℕ, ℤ, pos, ◌-ℤ◌, Bool, not, if◌then◌else◌, List, length, map, Unit, tt, Option, Some, None, Result, Ok, Err, slice_get, slice_index_or}
+use Rattle.std.specs.Prelude.{◌≡◌, ◌≤◌, ◌^◌, ◌⊎◌, ◌==◌, ℕ, ℤ, pos, ◌-ℤ◌, Bool, not, if◌then◌else◌, List, length, map, Option, Some, None, Result, Ok, Err, slice_get, slice_index_or}
 use Rattle.std.specs.List.{find, list_any}
 use Rattle.std.specs.List.Sorted.{IsPermutation}
 use Rattle.stated_order.specs.First.{HoldsBelow, HoldsLower, IsFirstFailure, IsFirstLowerFailure}

@@ -2,7 +2,7 @@
 --
 -- The text is read as it stands: block by block up to the line at which its frame breaks, if there is one; in a block the title
 -- first, then line by line. So the first bad line is the one with the least number.
-use Rattle.std.specs.Prelude.{◌≡◌, ◌≤◌, ◌^◌, ℕ, List, length, Unit, tt, Option, Some, None, Result, Ok, Err, IfSome}
+use Rattle.std.specs.Prelude.{◌≡◌, ◌≤◌, ◌^◌, ℕ, List, length, Option, Some, None, Result, Ok, Err, IfSome}
 use Rattle.std.specs.Option.{ok_or}
 use Rattle.stated_order.specs.Steps.{IsOne, Then, Renamed, Through}
 use Rattle.snx_lines.specs.Lines.{PlainLine, lines_in}
@@ -19,8 +19,8 @@ use Rattle.snx_matrices.specs.Elements.{AreElements, AreElementsOf, normal_headi
 use Rattle.snx_matrices.specs.declared.elements.Cell.{Cell}
 use Rattle.snx_matrices.specs.declared.elements.Content.{Content}
 use Rattle.snx_matrices.specs.declared.elements.Heading.{Heading}
-use Rattle.snx_sites.specs.Sites.{AreSites, AreEpochs, PlainSite}
-use Rattle.snx_sites.specs.declared.epochs.EpochRow.{EpochRow}
+use Rattle.snx_sites.specs.Plain.{PlainSite, PlainEpochRow}
+use Rattle.snx_sites.specs.Sites.{AreSites, AreEpochs}
 use Rattle.snx_blocks.specs.Sections.{section_of}
 use Rattle.snx_blocks.specs.declared.sections.Section.{Section}
 use Rattle.snx_blocks.specs.declared.sections.Section.TheVariants.{Estimates, Apriori, Vector, EstimateMatrix, AprioriMatrix, NormalMatrix, Sites, Epochs}
@@ -39,7 +39,7 @@ pub record PlainDoc : Type 0 where
   pub apriori_matrix : Option PlainMatrix
   pub normal_matrix : Option PlainMatrix
   pub sites : Option (List PlainSite)
-  pub epochs : Option (List EpochRow)
+  pub epochs : Option (List PlainEpochRow)
 
 -- a text without any of them
 abbrev pub empty_doc : PlainDoc
