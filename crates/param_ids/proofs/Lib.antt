@@ -1,4 +1,5 @@
 pub mod Derived
+pub mod OneName
 pub mod Ordered
 pub mod Repeats
 pub mod SameIds
