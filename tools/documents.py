@@ -15,7 +15,8 @@ from typing import NamedTuple
 
 import solve
 
-ONE_LINES = (Path(__file__).resolve().parent.parent / "examples/one-station.snx").read_text().splitlines()
+EXAMPLES = Path(__file__).resolve().parent.parent / "examples"
+ONE_LINES = (EXAMPLES / "one-station.snx").read_text().splitlines()
 ONE_REPORT = """SNXCOMB BOUNDS 1
 CERT g=40 B=1 M=0 N=1
      1 STAX   ABCD  A    1 24:001:00000 m    1.5000000000000000 1.5000000000000000 0E-29
@@ -531,7 +532,8 @@ def scales():
         yield network(f"{' '.join(kinds)} with small numbers", names, vector=".5", apriori="1", diagonal="4")
     name = "RS_RA/0001/A/1/24:001:00000"
     names = [sky | {"kind": "RS_RA"}]
-    yield network("the greatest diagonal of RS_RA", names, vector="1E+22", diagonal="1E+28")
+    yield network("the greatest diagonal of RS_RA", names, vector="1E+20", diagonal="1E+28")
+    yield network("the greatest diagonal and right side of RS_RA", names, vector="1E+22", diagonal="1E+28")
     yield network("a diagonal of RS_RA past its bound", names, f"range file:in {name} {name}", diagonal="1.000000000000001E+28")
     yield network("a right side of RS_RA past its bound", names, f"range file:in {name} {name}", vector="-1.00000000000001E+22")
     rows = block("SOLUTION/APRIORI", row(1, "STAX", "ABCD", "1"), row(2, "RS_RA", "0001", "1"))
@@ -652,6 +654,11 @@ def bytes_of_rows():
             yield Case(f"{byte!r} in column {column} of line {number}", joined(changed(lines, {number: put(lines[number - 1], column, byte)})))
 
 
+def examples():
+    for path in sorted(EXAMPLES.glob("*.snx")):
+        yield Case(path.name, path.read_bytes())
+
+
 def many_rows():
     names = [{"kind": "STAX", "code": f"{k:04}"} for k in range(1001)]
     yield network("1,001 rows", names, "in:1003 TooMany")
@@ -670,6 +677,7 @@ def distinct(cases):
 
 # the groups of documents, each by its name and what makes it
 GROUPS = {
+    "examples": examples,
     "frames": frames,
     "rows": rows,
     "matrices": matrices,
