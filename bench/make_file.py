@@ -56,7 +56,8 @@ def matrix_lines(lower, values, triangle):
             yield f"{i + 1:6d}{start + 1:6d} " + " ".join(some)
 
 
-def main(rows, values=1, triangle="L"):
+def text(rows, values=1, triangle="L"):
+    """The whole file."""
     assert 1 <= rows <= 1000 and values in (1, 3) and triangle in ("L", "U"), "see the head of this file"
     numbers = sequence()
     out = [f"%=SNX 2.02 GEN 24:001:00000 GEN 24:001:00000 24:002:00000 P {rows:05d} 2 S"]
@@ -74,8 +75,8 @@ def main(rows, values=1, triangle="L"):
     out += matrix_lines(list(elements(rows, numbers)), values, triangle)
     out.append("-" + title)
     out.append("%ENDSNX")
-    sys.stdout.write("\n".join(out) + "\n")
+    return "\n".join(out) + "\n"
 
 
 if __name__ == "__main__":
-    main(int(sys.argv[1]), *(int(it) for it in sys.argv[2:3]), *sys.argv[3:])
+    sys.stdout.write(text(int(sys.argv[1]), *(int(it) for it in sys.argv[2:3]), *sys.argv[3:]))

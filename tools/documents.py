@@ -36,6 +36,7 @@ GROUPS = {
     "bytes changed": made_documents.bytes_changed,
     "lines changed": made_documents.lines_changed,
     "columns changed": made_documents.bytes_of_rows,
+    "dense matrices": made_documents.dense,
     "many rows": made_documents.many_rows,
 }
 
@@ -57,7 +58,7 @@ def main():
         for case in bad:
             print(f"FAILED  {case.what}: {case.answer()[1]!r}, not {case.wants!r}")
         wrong += len(bad)
-        print(f"{group}: {len(made)} documents, {sum(case.wants is not None for case in made)} worked by hand, {len(bad)} otherwise")
+        print(f"{group}: {len(made)} documents, {sum(case.wants is not None for case in made)} of them with a known answer, {len(bad)} otherwise")
     return 1 if wrong else 0
 
 

@@ -1,6 +1,13 @@
 """SINEX documents that are made from a few by a fixed sequence of numbers; tools/solve.py alone says what comes."""
 
+import sys
+from pathlib import Path
+
+import solve
 from document_builders import Case, EXAMPLES, NORMAL, ONE_LINES, after, bare, block, changed, joined, network, one, put, row, strip, whole
+
+sys.path.append(str(Path(__file__).resolve().parent.parent / "bench"))
+import make_file  # noqa: E402
 
 
 def sequence():
@@ -94,6 +101,15 @@ def bytes_of_rows():
             yield Case(
                 f"{byte!r} in column {column} of line {number}", joined(changed(lines, {number: put(lines[number - 1], column, byte)}))
             )
+
+
+def dense():
+    """The files of bench/make_file.py: as many rows in four forms have one report."""
+    for rows in (1, 2, 6, 20):
+        report = solve.verdict("in", make_file.text(rows).encode())[1]
+        for values in (1, 3):
+            for triangle in ("L", "U"):
+                yield Case(f"{rows} rows, {values} values a line, {triangle}", make_file.text(rows, values, triangle).encode(), report)
 
 
 def examples():

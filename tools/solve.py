@@ -295,8 +295,8 @@ def bound(v):
 def label(number, name, unit):
     """Columns 1 to 44 of a row."""
     kind, code, point, solution, epoch = name
-    columns = b"%6d %s %s %s %s %s %s" % (number, kind, code, point.strip().rjust(2), solution.strip().rjust(4), sinex.moment_text(epoch), unit)
-    return columns.decode()
+    texts = kind, code, point.strip().rjust(2), solution.strip().rjust(4), sinex.moment_text(epoch), unit
+    return b" ".join([b"%6d" % number, *texts]).decode()
 
 
 def report(stack):
