@@ -51,14 +51,18 @@ def main():
         (case,) = [case for case in cases(group) if case.what == name]
         sys.stdout.buffer.write(case.text)
         return 0
-    wrong = 0
+    bad = worked_documents.texts_read_otherwise()
+    for text in bad:
+        print(f"FAILED  {text!r} is read otherwise")
+    wrong = len(bad)
     for group in GROUPS:
         made = cases(group)
         bad = [case for case in made if not case.is_as_wanted()]
         for case in bad:
             print(f"FAILED  {case.what}: {case.answer()[1]!r}, not {case.wants!r}")
         wrong += len(bad)
-        print(f"{group}: {len(made)} documents, {sum(case.wants is not None for case in made)} of them with a known answer, {len(bad)} otherwise")
+        known = sum(case.wants is not None for case in made)
+        print(f"{group}: {len(made)} documents, {known} of them with a known answer, {len(bad)} with another")
     return 1 if wrong else 0
 
 

@@ -1,7 +1,9 @@
 """SINEX documents whose answers were worked by hand, but for a few: one function for each group of tools/documents.py."""
 
 import itertools
+from fractions import Fraction
 
+import sinex
 from document_builders import (
     Case,
     NORMAL,
@@ -32,6 +34,51 @@ from document_builders import (
     strip,
     whole,
 )
+
+
+# ---- texts by themselves
+
+# moments as days from 1970-01-01 and seconds; none where the text is no moment
+MOMENTS = {
+    b"51:001:00000": (-6940, 0),
+    b"24:366:86399": (20088, 86399),
+    b"24:001:86400": (19724, 0),
+    b" 50:365:86399 ": (29584, 86399),
+    b"00:000:00000": sinex.NEVER,
+    b"  \t": sinex.NEVER,
+    b"50:366:00000": None,
+    b"50:365:86400": None,
+    b"24:1:0": None,
+}
+
+# numbers as a mantissa and a power of ten; none where the text is no number
+NUMBERS = {
+    b"-.407557863123456E+07": (-407557863123456, -8),
+    b".5-10": (5, -11),
+    b"\t0.1D+01 ": (1, 0),
+    b"100E-402": (1, -400),
+    b".1E+61": (1, 60),
+    b"": None,
+    b"1.2.3": None,
+    b"1E": None,
+    b"10E60": None,
+    b"10E-402": None,
+    b"9" * 19: None,
+}
+
+
+def read(reader, text):
+    try:
+        return reader(text)
+    except sinex.Bad:
+        return None
+
+
+def texts_read_otherwise():
+    """The texts of both tables that tools/sinex.py reads otherwise."""
+    bad = [text for text, at in MOMENTS.items() if read(sinex.moment, text) != at]
+    numbers = {text: it and it[0] * Fraction(10) ** it[1] for text, it in NUMBERS.items()}
+    return bad + [text for text, number in numbers.items() if read(sinex.decimal, text) != number]
 
 
 # ---- the frame
@@ -282,6 +329,10 @@ def values():
         yield one_value(f"a priori value {text!r}", 3, text)
     for text in ("2.", "+2", "2d0", ".2+1", "20-1", "000000000000000000002", "2.00000000000000000E0", ".0000000000000002E16"):
         yield one_value(f"vector value {text!r}", 6, text)
+    yield one_value("a vector value over 10^61 by its zeros", 6, "10E60", "in:6 Number")
+    yield one_value("a vector value of 10^60", 6, ".1E+61", f"range file:in {ONE_NAME} {ONE_NAME}")
+    for text, wants in (("100E-402", ONE_REPORT), ("10E-402", "in:3 Number"), ("10E60", "in:3 Number"), (".1E+61", ONE_REPORT)):
+        yield one_put(f"deviation {text!r}", 3, 70, f"{text:>11}", wants)
     yield one_value("a priori value 10^12", 3, "1E12", None)
     yield one_value("a priori value -10^12", 3, "-1E12", None)
     for text in ("1000000000001", "-1000000000001", ".100000000000100E+13", "1E60", "1000000000000.00001"):
