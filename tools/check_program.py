@@ -17,6 +17,7 @@ import shutil
 import subprocess
 import sys
 import tempfile
+from concurrent.futures import ThreadPoolExecutor
 from dataclasses import dataclass, field
 from pathlib import Path
 
@@ -24,6 +25,8 @@ import documents
 
 TOP = Path(__file__).resolve().parent.parent
 SECONDS = 60
+# how many documents are run at once
+TOGETHER = 4
 NOBODY = 65534
 
 ONE_STATION = (TOP / "examples/one-station.snx").read_bytes()
@@ -265,7 +268,7 @@ def checked_rows(program, room):
 
 def row_of(case):
     """The run of a document, with the answer of tools/solve.py."""
-    status, text = case.answer()
+    status, text = case.answer
     before = {"in": case.text}
     if status:
         return Row(case.what, SOLVE, status, text.encode(), before=before)
@@ -276,8 +279,9 @@ def checked_documents(program, room, group):
     """How many documents of a group passed and how many failed."""
     cases = documents.cases(group)
     failed = 0
-    for case in cases:
-        found = tried(program, row_of(case), room / "run")
+    with ThreadPoolExecutor(TOGETHER) as pool:
+        answers = pool.map(lambda it: tried(program, row_of(it[1]), room / str(it[0])), enumerate(cases))
+    for case, found in zip(cases, answers):
         if not case.is_as_wanted():
             found.append(f"tools/solve.py doesn't answer {case.wants!r}")
         failed += bool(found)

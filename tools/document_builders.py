@@ -1,7 +1,8 @@
 """Builders of SINEX documents for tools/documents.py: a small document whose lines are replaced, and texts put into columns."""
 
+from dataclasses import dataclass
+from functools import cached_property
 from pathlib import Path
-from typing import NamedTuple
 
 import solve
 
@@ -16,17 +17,20 @@ ONE_NAME = "STAX/ABCD/A/1/24:001:00000"
 NORMAL = "SOLUTION/NORMAL_EQUATION_MATRIX"
 
 
-class Case(NamedTuple):
+@dataclass
+class Case:
     what: str
     text: bytes
+    # a report, or the text of a refusal after 'snxcomb: '; or nothing, where tools/solve.py alone says what comes
     wants: str | None = None
 
+    @cached_property
     def answer(self):
-        """The status, and the report or the line said."""
+        """The status, and the report or the line said, by tools/solve.py."""
         return solve.verdict("in", self.text)
 
     def is_as_wanted(self):
-        said = self.answer()[1]
+        said = self.answer[1]
         return self.wants is None or said == self.wants or said == f"snxcomb: {self.wants}\n"
 
 

@@ -59,7 +59,7 @@ def main():
         made = cases(group)
         bad = [case for case in made if not case.is_as_wanted()]
         for case in bad:
-            print(f"FAILED  {case.what}: {case.answer()[1]!r}, not {case.wants!r}")
+            print(f"FAILED  {case.what}: {case.answer[1]!r}, not {case.wants!r}")
         wrong += len(bad)
         known = sum(case.wants is not None for case in made)
         print(f"{group}: {len(made)} documents, {known} of them with a known answer, {len(bad)} with another")
