@@ -155,8 +155,8 @@ def name(line):
     """The name in columns 8 to 39 of a row."""
     kind = field(line, 8, 13)
     demand(kind, "Field")
-    texts = letters(kind, 6), letters(field(line, 15, 18), 4), letters(field(line, 20, 21), 2), solution(field(line, 23, 26))
-    return Name(*texts, moment(field(line, 28, 39)))
+    code, point, called = letters(field(line, 15, 18), 4), letters(field(line, 20, 21), 2), solution(field(line, 23, 26))
+    return Name(letters(kind, 6), code, point, called, moment(field(line, 28, 39)))
 
 
 # ---- blocks: each takes its lines one after another
@@ -213,10 +213,8 @@ class Matrix:
         self.elements = {}
 
     def take(self, line):
-        row, column = index(field(line, 2, 6)), None
-        demand(row in self.by_index, "Index")
-        column = index(field(line, 8, 12))
-        demand(column in self.by_index, "Index")
+        row, column = index(field(line, 2, 6)), index(field(line, 8, 12))
+        demand(row in self.by_index and column in self.by_index, "Index")
         for k, text in enumerate((field(line, 14, 34), field(line, 36, 56), field(line, 58, 78))):
             if text:
                 self.put(row, column + k, decimal(text))
@@ -245,8 +243,9 @@ class Epochs:
         self.rows = []
 
     def take(self, line):
-        texts = letters(field(line, 2, 5), 4), letters(field(line, 7, 8), 2), solution(field(line, 10, 13)), letters(field(line, 15, 15), 1)
-        self.rows.append((*texts, *(moment(field(line, first, first + 11)) for first in (17, 30, 43))))
+        code, point, called = letters(field(line, 2, 5), 4), letters(field(line, 7, 8), 2), solution(field(line, 10, 13))
+        technique = letters(field(line, 15, 15), 1)
+        self.rows.append((code, point, called, technique, *(moment(field(line, first, first + 11)) for first in (17, 30, 43))))
 
 
 class Passed:
