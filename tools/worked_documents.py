@@ -620,6 +620,10 @@ def scales():
         names = [sky | {"kind": kind} for kind in kinds]
         yield network(f"{' '.join(kinds)} in radians", names, vector="3.5E+08", apriori="-.123456789012345678", diagonal=".25E+17")
         yield network(f"{' '.join(kinds)} with small numbers", names, vector=".5", apriori="1", diagonal="4")
+    for kind in ("RS_RA", "RS_DE"):
+        line = f"     1 {kind}  0001  A    1 24:001:00000 rad  1.1250000000000000 1.1250000000000000 0E-29\n"
+        report = "".join(ONE_REPORT.splitlines(True)[:2]) + line + "END\n"
+        yield network(f"{kind} alone", [sky | {"kind": kind}], report, vector=".5")
     name = "RS_RA/0001/A/1/24:001:00000"
     names = [sky | {"kind": "RS_RA"}]
     yield network("the greatest diagonal of RS_RA", names, vector="1E+20", diagonal="1E+28")
