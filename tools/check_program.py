@@ -1,12 +1,14 @@
 #!/usr/bin/env python3
 """Checks the built program: its status, what it says, and what it leaves in its folder.
 
-    check_program.py            builds the program by the launcher ./snxcomb, and checks it
-    check_program.py PROGRAM    checks a program that is built
+    check_program.py                     builds the program by the launcher ./snxcomb, and checks it
+    check_program.py PROGRAM             checks a program that is built
+    check_program.py PROGRAM GROUP ..    checks it on these groups of tools/documents.py alone
 
 Each row of the table below is one run in a folder of its own, below a temporary folder. It says what lies there before, what is
-run, and what must come; all else in the folder must be as before. One line is printed for each row, and at the end
-'N passed, M failed'. The status is 0 where none failed.
+run, and what must come; all else in the folder must be as before. The documents of tools/documents.py are run likewise, and
+tools/solve.py says what must come. One line is printed for each row and for each group of documents, and one for each document
+that has another answer; at the end 'N passed, M failed'. The status is 0 where none failed.
 """
 
 import os
@@ -15,11 +17,16 @@ import shutil
 import subprocess
 import sys
 import tempfile
+from concurrent.futures import ThreadPoolExecutor
 from dataclasses import dataclass, field
 from pathlib import Path
 
+import documents
+
 TOP = Path(__file__).resolve().parent.parent
 SECONDS = 60
+# how many documents are run at once
+TOGETHER = 4
 NOBODY = 65534
 
 ONE_STATION = (TOP / "examples/one-station.snx").read_bytes()
@@ -100,9 +107,10 @@ ROWS = [
     # ---- files that are refused
     Row("IN isn't there", ["solve", "none", "report"], 3, b"snxcomb: no file none\n"),
     Row("IN's folder isn't there", ["solve", "none/in", "report"], 3, b"snxcomb: no file none/in\n"),
-    Row("IN is empty", SOLVE, 3, b"snxcomb: unbuilt in\n", before={"in": b""}),
-    Row("IN isn't in the plain form", SOLVE, 3, b"snxcomb: unbuilt in\n", before={"in": ONE_STATION + b"\n"}),
-    Row("IN has 64 MiB", SOLVE, 3, b"snxcomb: unbuilt in\n", before={"in": Zeros(LIMIT)}),
+    Row("IN is empty", SOLVE, 3, b"snxcomb: in:1 NoHeader\n", before={"in": b""}),
+    Row("IN has a bad line", SOLVE, 3, b"snxcomb: in:12 AfterFooter\n", before={"in": ONE_STATION + b"x\n"}),
+    Row("IN lacks a block", SOLVE, 3, b"snxcomb: block file:in SOLUTION/APRIORI\n", before={"in": b"%=SNX 2.02\n%ENDSNX\n"}),
+    Row("IN has 64 MiB", SOLVE, 3, b"snxcomb: in:1 NoHeader\n", before={"in": Zeros(LIMIT)}),
     Row("IN has a byte more", SOLVE, 3, b"snxcomb: too long in\n", before={"in": Zeros(LIMIT + 1)}),
     Row("no pivot", SOLVE, 6, PIVOT_LINE, before={"in": NO_PIVOT}),
     Row("no pivot, and a report before", SOLVE, 6, PIVOT_LINE, before={"in": NO_PIVOT, "report": b"before"}),
@@ -231,34 +239,72 @@ def built(room):
     return TOP / "crates/snxcomb/out/snxcomb"
 
 
+def tried(program, row, folder):
+    """What came otherwise than the row says, in a folder that is made for it and goes afterwards."""
+    folder.mkdir()
+    folder.chmod(0o777)
+    try:
+        return wrong(program, row, folder)
+    except subprocess.TimeoutExpired:
+        return [f"it had not ended after {SECONDS} seconds"]
+    finally:
+        shutil.rmtree(folder)
+
+
+def checked_rows(program, room):
+    """How many rows passed and how many failed."""
+    passed, failed = 0, 0
+    changes = can_change_user(program)
+    for row in ROWS:
+        if row.as_user and not changes:
+            print(f"note    {row.what}: not run, since root may open every file")
+            continue
+        found = tried(program, row, room / "run")
+        print(f"FAILED  {row.what}: {'; '.join(found)}" if found else f"passed  {row.what}", flush=True)
+        failed += bool(found)
+        passed += not found
+    return passed, failed
+
+
+def row_of(case):
+    """The run of a document, with the answer of tools/solve.py."""
+    status, text = case.answer
+    before = {"in": case.text}
+    if status:
+        return Row(case.what, SOLVE, status, text.encode(), before=before)
+    return Row(case.what, SOLVE, 0, before=before, made={"report": text.encode()})
+
+
+def checked_documents(program, room, group):
+    """How many documents of a group passed and how many failed."""
+    cases = documents.cases(group)
+    failed = 0
+    with ThreadPoolExecutor(TOGETHER) as pool:
+        answers = pool.map(lambda it: tried(program, row_of(it[1]), room / str(it[0])), enumerate(cases))
+    for case, found in zip(cases, answers):
+        if not case.is_as_wanted():
+            found.append(f"tools/solve.py doesn't answer {case.wants!r}")
+        failed += bool(found)
+        if found:
+            print(f"FAILED  {group}: {case.what}: {'; '.join(found)}", flush=True)
+    if not failed:
+        print(f"passed  {group}: {len(cases)} documents", flush=True)
+    return len(cases) - failed, failed
+
+
 def main():
     with tempfile.TemporaryDirectory(prefix="check-program-") as name:
         room = Path(name)
         room.chmod(0o755)
-        passed, failed = 0, 0
-        if len(sys.argv) > 1:
-            source = sys.argv[1]
-        else:
-            source = built(room)
-            passed += 1
+        source, *groups = sys.argv[1:] or [built(room)]
+        counts = [(len(sys.argv) == 1, 0)]
         program = room / "program"
         shutil.copy(source, program)
         program.chmod(0o755)
-        changes = can_change_user(program)
-        for number, row in enumerate(ROWS):
-            if row.as_user and not changes:
-                print(f"note    {row.what}: not run, since root may open every file")
-                continue
-            folder = room / str(number)
-            folder.mkdir()
-            folder.chmod(0o777)
-            try:
-                found = wrong(program, row, folder)
-            except subprocess.TimeoutExpired:
-                found = [f"it had not ended after {SECONDS} seconds"]
-            print(f"FAILED  {row.what}: {'; '.join(found)}" if found else f"passed  {row.what}", flush=True)
-            failed += bool(found)
-            passed += not found
+        if not groups:
+            counts.append(checked_rows(program, room))
+        counts += [checked_documents(program, room, group) for group in groups or documents.GROUPS]
+        passed, failed = (sum(it) for it in zip(*counts))
         print(f"{passed} passed, {failed} failed")
         return 1 if failed else 0
 

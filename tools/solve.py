@@ -1,17 +1,18 @@
 #!/usr/bin/env python3
-"""Computes what `snxcomb solve` answers, apart from the program, for a file of any number of rows.
+"""Computes what `snxcomb solve` answers, apart from the program, for any file.
 
-    solve.py FILE         writes the report of a file in the plain form, or the line of its refusal
+    solve.py FILE         writes the report of a SINEX file, or the line of its refusal
     solve.py table NAME   writes what pilot, start vector and certificate give for a worked table
 
 Everything is exact, in Python's whole numbers and fractions, and written from the rules, not from the program's code. A word
-is a pair (lo, hi) of whole numbers.
+is a pair (lo, hi) of whole numbers. Sums pass over zeros, so that a sparse matrix of 1,000 rows takes seconds.
 """
 
 import math
-import re
 import sys
 from fractions import Fraction
+
+import sinex
 
 
 class Refused(Exception):
@@ -27,8 +28,9 @@ def word(value):
 
 
 def scale10(w, k):
-    by = Fraction(10) ** k
-    return (math.floor(w[0] * by), math.ceil(w[1] * by))
+    if k >= 0:
+        return (w[0] * 10**k, w[1] * 10**k)
+    return (w[0] // 10**-k, -(-w[1] // 10**-k))
 
 
 def less(w, v):
@@ -45,6 +47,11 @@ def total(words):
         lo += w[0]
         hi += w[1]
     return (lo, hi)
+
+
+def nonzero(words):
+    """The places at which a list has another number than 0, or another word than [0, 0], with what stands there."""
+    return [(k, w) for k, w in enumerate(words) if w not in (0, (0, 0))]
 
 
 def shifted(w, h):
@@ -66,119 +73,38 @@ def middle(w):
     return (w[0] + w[1]) // 2
 
 
-# ---- the plain form
+# ---- from a document to its stack
 
-DECIMAL = re.compile(rb"[ \t]*([+-]?)(?:(\d+)\.?(\d*)|\.(\d+))(?:(?:[EeDd]([+-]?\d+))|([+-]\d+))?[ \t]*")
-EPOCH = b"24:001:00000"
-
-
-class Unbuilt(Exception):
-    """The text isn't in the plain form."""
+SCALES = {b"RS_RA ": 6, b"RS_DE ": 6}
 
 
-def demand(holds):
-    if not holds:
-        raise Unbuilt
+class Stack:
+    """The unknowns of a document in the order of their names, with the table and the right side that stand for them."""
 
+    def __init__(self, document):
+        vector = {row.name: row.value for row in document[sinex.VECTOR].rows}
+        apriori = document[sinex.APRIORI].by_name
+        self.names = sorted(vector)
+        self.units = [apriori[name].unit for name in self.names]
+        self.x0 = [apriori[name].value for name in self.names]
+        self.scales = [SCALES.get(name.kind, 0) for name in self.names]
+        place = {name: i for i, name in enumerate(self.names)}
+        n = len(self.names)
+        self.table = [[(0, 0)] * n for _ in range(n)]
+        for (row, column), value in document[sinex.NORMAL_MATRIX].elements.items():
+            i, j = place[row], place[column]
+            self.table[i][j] = word(value * Fraction(10) ** (18 - self.scales[i] - self.scales[j]))
+        self.right = [word(vector[name] * Fraction(10) ** (18 - t)) for name, t in zip(self.names, self.scales)]
 
-def read_decimal(text):
-    """The number that a field of 21 columns writes, as a fraction."""
-    demand(len(text) == 21)
-    m = DECIMAL.fullmatch(text)
-    demand(m)
-    sign, whole, more, alone, marked, bare = m.groups()
-    digits = (whole or b"") + (more if whole is not None else alone)
-    point = len(more) if whole is not None else len(alone)
-    demand(len(digits.strip(b"0")) <= 18)
-    power = int(marked or bare or b"0")
-    demand(abs(power) <= 999)
-    value = Fraction(int(digits)) * Fraction(10) ** (power - point)
-    if value:
-        exponent = power - point + len(digits) - len(digits.rstrip(b"0"))
-        demand(-400 <= exponent <= 60)
-    return -value if sign == b"-" else value
-
-
-def row_label(k, kind, code):
-    return b"%6d %s   %s  A    1 %s m   " % (k, kind, code, EPOCH)
-
-
-def read_row(line, k, tail):
-    """The name and the value of row k, counted from 1."""
-    demand(len(line) == 68 + len(tail) and line.endswith(tail))
-    m = re.fullmatch(rb"(STA[XYZ])   ([A-Z0-9]{4})", line[7:18])
-    demand(m)
-    name = m.groups()
-    demand(line[:47] == row_label(k, *name) + b" 2 ")
-    return name, read_decimal(line[47:68])
-
-
-def read_plain(text):
-    """Names, a priori values, vector and matrix of a text in the plain form."""
-    demand(text.endswith(b"\n"))
-    lines = text[:-1].split(b"\n")
-    demand(lines[0].startswith(b"%=SNX 2.02"))
-    at = 1
-
-    def expect(line):
-        nonlocal at
-        demand(at < len(lines) and lines[at] == line)
-        at += 1
-
-    def block(title, tail):
-        nonlocal at
-        expect(b"+" + title)
-        rows = []
-        while at < len(lines) and not lines[at].startswith(b"-"):
-            rows.append(read_row(lines[at], len(rows) + 1, tail))
-            at += 1
-        expect(b"-" + title)
-        return rows
-
-    first = block(b"SOLUTION/APRIORI", b" .000000E+00")
-    second = block(b"SOLUTION/NORMAL_EQUATION_VECTOR", b"")
-    names = [name for name, _ in first]
-    n = len(names)
-    demand(1 <= n <= 1000 and names == [name for name, _ in second])
-    demand(all(a < b for a, b in zip(names, names[1:])))
-    demand(all(abs(value) <= 10**12 for _, value in first))
-    matrix = [[Fraction(0)] * n for _ in range(n)]
-    title = b"SOLUTION/NORMAL_EQUATION_MATRIX L"
-    expect(b"+" + title)
-    last = (0, 0)
-    while at < len(lines) and not lines[at].startswith(b"-"):
-        line = lines[at]
-        demand(len(line) == 34)
-        m = re.fullmatch(rb" *(\d+)", line[:6]), re.fullmatch(rb" *(\d+)", line[6:12])
-        demand(all(m))
-        pair = int(m[0][1]), int(m[1][1])
-        demand(line[:13] == b"%6d%6d " % pair and 1 <= pair[1] <= pair[0] <= n and last < pair)
-        i, j = pair[0] - 1, pair[1] - 1
-        matrix[i][j] = matrix[j][i] = read_decimal(line[13:])
-        last = pair
-        at += 1
-    expect(b"-" + title)
-    expect(b"%ENDSNX")
-    demand(at == len(lines))
-    return names, [v for _, v in first], [v for _, v in second], matrix
-
-
-# ---- the words of the file
-
-
-def file_words(matrix, vector):
-    n = len(vector)
-    table = [[None] * n for _ in range(n)]
-    for i in range(n):
-        for j in range(i + 1):
-            table[i][j] = table[j][i] = word(matrix[i][j] * 10**18)
-            if size(table[i][j]) > 10**34:
-                raise Refused("words", i, j)
-    right = [word(v * 10**18) for v in vector]
-    for i in range(n):
-        if size(right[i]) > 10**34:
-            raise Refused("words", i, i)
-    return table, right
+    def test(self):
+        """Refuses the first word that passes its bound."""
+        for i, row in enumerate(self.table):
+            for j in range(i + 1):
+                if size(row[j]) > 10**34:
+                    raise Refused("words", i, j)
+        for i, w in enumerate(self.right):
+            if size(w) > 10**34:
+                raise Refused("words", i, i)
 
 
 # ---- the working table
@@ -216,9 +142,10 @@ def working(table, right):
 def factor(m):
     n = len(m)
     f = [[0] * n for _ in range(n)]
+    before = [[] for _ in range(n)]
     for j in range(n):
         for i in range(j, n):
-            t = m[i][j] - sum((f[i][k] * f[j][k]) >> 60 for k in range(j))
+            t = m[i][j] - sum((v * f[j][k]) >> 60 for k, v in before[i])
             if i == j and t < 1:
                 raise Refused("pivot", j)
             if abs(t) > 2**61:
@@ -226,19 +153,23 @@ def factor(m):
             f[i][j] = math.isqrt(t << 60) if i == j else (t << 60) // f[j][j]
             if abs(f[i][j]) > 2**61:
                 raise Refused("pivot", j)
+        for i in range(j, n):
+            if f[i][j]:
+                before[i].append((j, f[i][j]))
     return f
 
 
-def column(f, g, c):
+def column(f, left, below, g, c):
+    """Column c of the approximate inverse at the scale g; left and below are what stands beside the diagonal of f."""
     n = len(f)
     u, x = [0] * n, [0] * n
     for i in range(n):
-        s = (2 ** (g + 10) if i == c else 0) - sum((f[i][k] * u[k]) >> 60 for k in range(i))
+        s = (2 ** (g + 10) if i == c else 0) - sum((v * u[k]) >> 60 for k, v in left[i])
         u[i] = (s << 60) // f[i][i]
         if abs(s) > 2**66 or abs(u[i]) > 2**64:
             return None
     for i in reversed(range(n)):
-        s = u[i] - sum((f[k][i] * x[k]) >> 60 for k in range(i + 1, n))
+        s = u[i] - sum((v * x[k]) >> 60 for k, v in below[i])
         x[i] = (s << 60) // f[i][i]
         if abs(s) > 2**66 or abs(x[i]) > 2**60:
             return None
@@ -248,10 +179,12 @@ def column(f, g, c):
 def pilot(a):
     n = len(a)
     f = factor([[middle(w) for w in row] for row in a])
+    left = [nonzero(f[i][:i]) for i in range(n)]
+    below = [[(k, f[k][i]) for k in range(i + 1, n) if f[k][i]] for i in range(n)]
     for g in (50, 40, 30, 20, 10, 0):
         columns = []
         for c in range(n):
-            x = column(f, g, c)
+            x = column(f, left, below, g, c)
             if x is None:
                 break
             columns.append(x)
@@ -266,8 +199,9 @@ def pilot(a):
 def start_vector(a, d, g, r):
     n = len(a)
     y = [0] * n
+    rows = [[(j, middle(w)) for j, w in nonzero(row)] for row in a]
     for _ in range(3):
-        q = [middle(d[i]) - sum(middle(a[i][j]) * y[j] for j in range(n)) for i in range(n)]
+        q = [middle(d[i]) - sum(m * y[j] for j, m in rows[i]) for i in range(n)]
         h = least(lambda h: all(abs(v >> h) <= 2**66 for v in q))
         y = [y[i] + (sum(r[i][k] * (q[k] >> h) for k in range(n)) >> (g + 60 - h)) for i in range(n)]
         running = 0
@@ -278,18 +212,25 @@ def start_vector(a, d, g, r):
     return y
 
 
+def defect(rows, row, i, g):
+    """What row i of the approximate inverse leaves of the identity, in units of 2^-30."""
+    whole = 2 ** (g + 60)
+    low, high = [0] * len(row), [0] * len(row)
+    for k, v in nonzero(row):
+        for j, w in rows[k]:
+            lo, hi = times(v, w)
+            low[j] += lo
+            high[j] += hi
+    low[i], high[i] = low[i] - whole, high[i] - whole
+    return up(sum(min(size(w), whole) for w in zip(low, high)), 2 ** (g + 30))
+
+
 def certificate(a, d, g, r, y):
     """B, M and the radii."""
     n = len(a)
-    whole = 2 ** (g + 60)
-    parts = []
-    for i in range(n):
-        sizes = 0
-        for j in range(n):
-            unit = whole if i == j else 0
-            sizes += min(size(less((unit, unit), total(times(r[i][k], a[k][j]) for k in range(n)))), whole)
-        parts.append(up(sizes, 2 ** (g + 30)))
-    left = [less(d[i], total(times(y[j], a[i][j]) for j in range(n))) for i in range(n)]
+    rows = [nonzero(row) for row in a]
+    parts = [defect(rows, r[i], i, g) for i in range(n)]
+    left = [less(d[i], total(times(y[j], w) for j, w in rows[i])) for i in range(n)]
     h = least(lambda h: all(size(shifted(w, h)) <= 2**66 for w in left))
     left = [shifted(w, h) for w in left]
     errors = [up(size(total(times(r[i][k], left[k]) for k in range(n))), 2 ** (g + 60 - h)) for i in range(n)]
@@ -321,7 +262,7 @@ def product(w, v):
 
 
 def printed(x0, e, a, d, y, w):
-    """Lower, upper, residual and place of each row."""
+    """Lower, upper, residual and place of each row; e has the exponents with the scale exponents of the types added."""
     n = len(x0)
     rows, estimates = [], []
     for i in range(n):
@@ -343,7 +284,7 @@ def printed(x0, e, a, d, y, w):
         running += size(z[i])
         if running > 2**65:
             raise Refused("range", i, i)
-    residuals = [size(less(d[i], total(product(a[i][j], z[j]) for j in range(n)))) for i in range(n)]
+    residuals = [size(less(d[i], total(product(v, z[j]) for j, v in nonzero(a[i])))) for i in range(n)]
     return [(*rows[i], residuals[i], e[i] - 30) for i in range(n)]
 
 
@@ -351,37 +292,57 @@ def bound(v):
     return ("-" if v < 0 else "") + f"{abs(v) // 10**16}.{abs(v) % 10**16:016}"
 
 
-def report(names, x0, vector, matrix):
-    e, a, d = working(*file_words(matrix, vector))
+def label(number, name, unit):
+    """Columns 1 to 44 of a row."""
+    kind, code, point, solution, epoch = name
+    texts = kind, code, point.strip().rjust(2), solution.strip().rjust(4), sinex.moment_text(epoch), unit
+    return b" ".join([b"%6d" % number, *texts]).decode()
+
+
+def report(stack):
+    e, a, d = working(stack.table, stack.right)
     g, r = pilot(a)
     y = start_vector(a, d, g, r)
     b, m, w = certificate(a, d, g, r, y)
-    lines = ["SNXCOMB BOUNDS 1", f"CERT g={g} B={b} M={m} N={len(names)}"]
-    for k, row in enumerate(printed(x0, e, a, d, y, w)):
-        label = row_label(k + 1, *names[k]).decode()
-        lines.append(f"{label} {bound(row[0])} {bound(row[1])} {row[2]}E{row[3]}")
+    lines = ["SNXCOMB BOUNDS 1", f"CERT g={g} B={b} M={m} N={len(a)}"]
+    powers = [i + t for i, t in zip(e, stack.scales)]
+    for k, (lower, upper, residual, place) in enumerate(printed(stack.x0, powers, a, d, y, w)):
+        lines.append(f"{label(k + 1, stack.names[k], stack.units[k])} {bound(lower)} {bound(upper)} {residual}E{place}")
     return "\n".join(lines + ["END", ""])
 
 
-def answer(file, text):
-    """The report of the text of this file, or the line of its refusal."""
-    try:
-        names, x0, vector, matrix = read_plain(text)
-    except Unbuilt:
-        return f"snxcomb: unbuilt {file}\n"
-    try:
-        return report(names, x0, vector, matrix)
-    except Refused as refusal:
-        cause, *numbers = refusal.args
-
-    def name(i):
-        return f"{names[i][0].decode()}/{names[i][1].decode()}/A/1/{EPOCH.decode()}"
-
+def stacked(file, refusal, names):
+    """The line of a refusal of a stack's numbers."""
+    cause, *numbers = refusal.args
     if cause in ("words", "range"):
         place = f"file:{file}" if cause == "words" else "stack"
-        return f"snxcomb: range {place} {name(numbers[0])} {name(numbers[1])}\n"
+        return f"snxcomb: range {place} {names[numbers[0]].text()} {names[numbers[1]].text()}\n"
     rest = "".join(f" {v}" for v in numbers[1:])
-    return f"snxcomb: {cause} stack {name(numbers[0])}{rest}\n"
+    return f"snxcomb: {cause} stack {names[numbers[0]].text()}{rest}\n"
+
+
+def verdict(file, text):
+    """The status, and the report of the text of this file or the line of its refusal."""
+    try:
+        document = sinex.read_document(text)
+    except sinex.LineFault as fault:
+        return 3, f"snxcomb: {file}:{fault.line} {fault.cause}\n"
+    if sinex.APRIORI not in document:
+        return 3, f"snxcomb: block file:{file} {sinex.APRIORI.decode()}\n"
+    if sinex.VECTOR not in document or sinex.NORMAL_MATRIX not in document:
+        return 3, f"snxcomb: unbuilt {file}\n"
+    rows = document[sinex.VECTOR].rows
+    for row in rows:
+        if row.name not in document[sinex.APRIORI].by_name:
+            return 3, f"snxcomb: unmatched file:{file} {row.name.text()}\n"
+    if not rows:
+        return 3, f"snxcomb: empty file:{file}\n"
+    stack = Stack(document)
+    try:
+        stack.test()
+        return 0, report(stack)
+    except Refused as refusal:
+        return 6, stacked(file, refusal, stack.names)
 
 
 # ---- worked tables: stack words and right sides
@@ -448,4 +409,4 @@ if __name__ == "__main__":
         show(sys.argv[2])
     else:
         with open(sys.argv[1], "rb") as file:
-            sys.stdout.write(answer(sys.argv[1], file.read()))
+            sys.stdout.write(verdict(sys.argv[1], file.read())[1])
