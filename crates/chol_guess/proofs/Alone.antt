@@ -1,8 +1,8 @@
 -- What determines the columns of an inverse: two columns of one factor at one scale are one, and a row that fails its
 -- bounds is one of no column.
-use Rattle.std.proofs.Common.{◌≡◌, ◌≤◌, ◌<◌, ◌+◌, ◌-◌, ◌^◌, ◌∙◌, ℕ, zero, suc, ℤ, pos, ◌*ℤ◌, ◌-ℤ◌, arith, refl, sym, ap, subst, unsigned_abs}
+use Rattle.std.proofs.Common.{◌≡◌, ◌≤◌, ◌<◌, ◌+◌, ◌-◌, ◌^◌, ◌∙◌, ℕ, zero, suc, ℤ, pos, ◌-ℤ◌, arith, refl, sym, ap, subst, unsigned_abs}
 use Rattle.std.proofs.Math.Decide.{dec_lt}
-use Rattle.whole_numbers.proofs.ListLaws.{same_below, minus_same, product_same}
+use Rattle.whole_numbers.proofs.ListLaws.{same_below, minus_same}
 use Rattle.whole_numbers.specs.Lists.{SameBelow}
 use Rattle.whole_numbers.specs.Sum.{unit}
 use Rattle.whole_numbers.proofs.Sums.{sum_to_same}

@@ -9,10 +9,12 @@ ghost use Rattle.whole_numbers.specs.Quotients.{floor_over, ceil_over};
 mod least;
 mod scaling;
 mod squares;
+mod transposes;
 
 pub use least::least_passed;
 pub use scaling::{scale_ceil, scale_floor, ten_to};
 pub use squares::Square;
+pub use transposes::{set_column, transposed};
 
 /// The product of two numbers whose sizes have a product of at most 2^126.
 #[tactic(auto, using(crate::proofs::Fits::product_bits, crate::proofs::Fits::product_value))]
