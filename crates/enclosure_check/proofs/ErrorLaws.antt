@@ -12,7 +12,7 @@ use Rattle.sym_blocks.specs.Tables.{SymTable, word}
 use Rattle.whole_numbers.specs.Lists.{at}
 use Rattle.sys_model.specs.Systems.{Table, residual_interval}
 use Rattle.enclosures.specs.Pilots.{PilotTable, pilot_word}
-use Rattle.enclosure_check.specs.Certificates.{AreErrors, LeftFitsAfter}
+use Rattle.enclosure_check.specs.Certificates.{AreErrors, ResidualFitsAfter}
 use Rattle.enclosure_check.specs.ErrorParts.{IsVector, IsRowByWords, AreResiduals, AreShifted, AreShiftedResiduals, AreShiftedErrors, FitAfter, taken_interval, part_interval, shifted_error, word_at}
 use Rattle.stated_order.specs.First.{IsLeast}
 
@@ -92,10 +92,10 @@ left_shifted n t y ws vs h few left least shifted = record {
 }
 
 -- what fits of the list fits of the definition, and the other way round
-fits_left : (n : ℕ) (t : Table) (y : ℕ → ℤ) (ws : List Interval) → AreResiduals n t y ws → (h : ℕ) → FitAfter ws h → LeftFitsAfter n t y h
+fits_left : (n : ℕ) (t : Table) (y : ℕ → ℤ) (ws : List Interval) → AreResiduals n t y ws → (h : ℕ) → FitAfter ws h → ResidualFitsAfter n t y h
 fits_left n t y ws left h fits i row = subst (λ w. size (interval_shift h w) ≤ 2 ^ 66) (left.each i row) (fits i (omega (arith, left.len)))
 
-fits_back : (n : ℕ) (t : Table) (y : ℕ → ℤ) (ws : List Interval) → AreResiduals n t y ws → (h : ℕ) → LeftFitsAfter n t y h → FitAfter ws h
+fits_back : (n : ℕ) (t : Table) (y : ℕ → ℤ) (ws : List Interval) → AreResiduals n t y ws → (h : ℕ) → ResidualFitsAfter n t y h → FitAfter ws h
 fits_back n t y ws left h fits k inside = let row : k < n = omega (arith, left.len) in subst (λ w. size (interval_shift h w) ≤ 2 ^ 66) (sym (left.each k row)) (fits k row)
 
 -- the errors of the shifted words are those of the definition
@@ -104,7 +104,7 @@ pub errors_are : (n : ℕ) (t : Table) (y : ℕ → ℤ) (p : PilotTable) (ws vs
 errors_are n t y p ws vs h size_is few left least shifted errors are = record {
   h = h;
   few = few;
-  shift = least_same (FitAfter ws) (LeftFitsAfter n t y) h (fits_left n t y ws left) (fits_back n t y ws left) least;
+  shift = least_same (FitAfter ws) (ResidualFitsAfter n t y) h (fits_left n t y ws left) (fits_back n t y ws left) least;
   len = omega (arith, are.len);
   each = λ i row.
       let same = sum_intervals_same n (λ k. interval_scale (pilot_word p i k) (word_at vs k)) (λ k. interval_scale (pilot_word p i k) (interval_shift h (residual_interval n t y k)))

@@ -7,7 +7,7 @@ use Rattle.sys_model.specs.Systems.{Table}
 use Rattle.whole_numbers.specs.Lists.{at, AllAtMost}
 use Rattle.enclosures.specs.Pilots.{PilotTable, pilot_word}
 use Rattle.enclosure_check.specs.ErrorParts.{IsVector}
-use Rattle.enclosure_check.specs.Vectors.{IsTurn, midpoint_residual}
+use Rattle.enclosure_check.specs.Vectors.{IsRefinement, midpoint_residual}
 use Rattle.enclosures.specs.Vectors.{IsSmall}
 use Rattle.enclosure_check.specs.declared.VectorError.{VectorError}
 use Rattle.enclosure_check.specs.declared.VectorError.TheVariants.{Range, Memory}
@@ -73,9 +73,9 @@ IsPassed n f Memory = ⊤
 -- the numbers zs are a vector, and one refinement leads to them from y
 pub record IsRefined (n : ℕ) (t : Table) (p : PilotTable) (y : ℕ → ℤ) (zs : List ℤ) : Type 0 where
   pub vector : IsVector n zs
-  pub turn : IsTurn n t p y (at zs)
+  pub refinement : IsRefinement n t p y (at zs)
 
 -- after one refinement from y the numbers pass 2^64 at the row that the refusal names
 abbrev pub IsRefinementRefused : ℕ → Table → PilotTable → (ℕ → ℤ) → VectorError → Type 0
-IsRefinementRefused n t p y (Range row) = (z : ℕ → ℤ) × (IsTurn n t p y z × PassesAt n z row)
+IsRefinementRefused n t p y (Range row) = (z : ℕ → ℤ) × (IsRefinement n t p y z × PassesAt n z row)
 IsRefinementRefused n t p y Memory = ⊤
