@@ -23,7 +23,7 @@ use Rattle.enclosures.specs.Vectors.{IsSmall}
 use Rattle.enclosure_check.proofs.ErrorLaws.{AreSmallIntervals, least_same}
 use Rattle.stated_order.specs.First.{IsLeast}
 
--- the middle is no greater than the word
+-- the middle is no greater than the interval
 pub middle_small : (w : Interval) (m : ℕ) → size w ≤ m → unsigned_abs (midpoint w) ≤ m
 middle_small w m h = floor_small (w.lo +ℤ w.hi) 2 m (omega arith) (omega (arith, ints))
 

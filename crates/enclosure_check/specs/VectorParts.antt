@@ -13,11 +13,11 @@ use Rattle.enclosure_check.specs.declared.VectorError.{VectorError}
 use Rattle.enclosure_check.specs.declared.VectorError.TheVariants.{Range, Memory}
 use Rattle.whole_numbers.specs.Intervals.{midpoint}
 
--- the midpoint of the word (i, j) times number j of the vector
+-- the midpoint of the interval (i, j) times number j of the vector
 abbrev pub taken_midpoint : SymTable → List ℤ → ℕ → ℕ → ℤ
 taken_midpoint a y i j = midpoint (word a i j) *ℤ at y j
 
--- the numbers are the residual of y, by the midpoints of the words
+-- the numbers are the residual of y, by the midpoints of the intervals
 pub record AreMidpointResiduals (n : ℕ) (t : Table) (y : ℕ → ℤ) (qs : List ℤ) : Type 0 where
   pub len : length qs ≡ n
   pub each : (i : ℕ) → i < n → at qs i ≡ midpoint_residual n t y i
