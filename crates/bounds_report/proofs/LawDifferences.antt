@@ -1,4 +1,4 @@
--- The differences of the printed estimates from the a priori values: the words that hold them, and their fractions over one denominator.
+-- The differences of the printed estimates from the a priori values: what intervals hold them, and their fractions over one denominator.
 use Rattle.std.proofs.Common.{◌≡◌, ◌*◌, ◌^◌, ◌≤◌, ◌<◌, ◌∙◌, ℕ, zero, suc, ℤ, pos, ◌+ℤ◌, ◌*ℤ◌, neg_ℤ, Bool, true, false, arith, refl, sym, ap, subst}
 use Rattle.std.specs.Prelude.{nat_le, if◌then◌else◌}
 use Rattle.std.proofs.Math.IntN.{◌-ℤ◌}
@@ -28,14 +28,14 @@ use Rattle.bounds_report.proofs.LawWords.{decimal_interval_holds}
 abbrev pub away : Decimal → ℤ → ℤ
 away x0 v = v *ℤ pos (denominator x0) -ℤ numerator x0 *ℤ pos (10 ^ 16)
 
--- ---- the word of a difference
+-- ---- the interval of a difference
 far_crossed : (v a : ℤ) (d t k : ℕ) → ((v *ℤ pos k) *ℤ pos 1) *ℤ pos d -ℤ (a *ℤ pos (t * k)) *ℤ pos 1 ≡ (v *ℤ pos d -ℤ a *ℤ pos t) *ℤ pos k
 far_crossed v a d t k =
     let l : (v *ℤ pos k) *ℤ pos 1 ≡ v *ℤ pos k = omega (arith, ints) in
     let r : (a *ℤ pos (t * k)) *ℤ pos 1 ≡ a *ℤ pos (t * k) = omega (arith, ints) in
     rw (l, r) (simp ring (omega (arith, ints)))
 
--- whether the word has the ends v
+-- whether the interval has the ends v
 abbrev is_exactly : Interval → ℤ → Bool
 is_exactly w v = nat_le (size (interval_sub w (point_interval v))) 0
 
@@ -56,7 +56,7 @@ holds_choice : (b : Bool) (w v : Interval) (x : ℤ) (q : ℕ) → (b ≡ true �
 holds_choice true w v x q h k = h refl
 holds_choice false w v x q h k = k refl
 
--- the word of the difference holds it at 10^20
+-- the interval of the difference holds it at 10^20
 difference_holds : (x0 : Decimal) (v : ℤ) → Holds (difference x0 v) (away x0 v *ℤ pos (10 ^ 4)) (denominator x0)
 difference_holds x0 v =
     let d = denominator x0 in

@@ -13,14 +13,14 @@ use Rattle.sys_model.proofs.RescaledLaws.{residual_rescaled}
 use Rattle.sys_model.proofs.ScalingLaws.{times_back, times_same}
 use Rattle.whole_numbers.specs.Scaling.{ten_above, ten_below}
 
--- what the words z leave of the right side in row i
+-- what the intervals z leave of the right side in row i
 abbrev pub left_by : ℕ → Table → (ℕ → Interval) → ℕ → Interval
 left_by n t z i = interval_sub (t.right i) (sum_intervals n (λ j. interval_mul (t.entry i j) (z j)))
 
 abs_swapped : (a b : ℤ) → unsigned_abs (a -ℤ b) ≡ unsigned_abs (b -ℤ a)
 abs_swapped a b = omega (arith, ints)
 
--- words that hold the fractions of y leave at least its residual
+-- intervals that hold the fractions of y leave at least its residual
 left_size : (n : ℕ) (t : Table) (T : System) (y : Fractions) (z : ℕ → Interval) (i : ℕ) → LiesIn n t T → ((j : ℕ) → j < n → Holds (z j) (y.x j) y.s) → i < n
     → unsigned_abs (residual n T y i) ≤ size (left_by n t z i) * (T.q * y.s)
 left_size n t T y z i lies held row =

@@ -24,7 +24,7 @@ decimal_crossed m t u b c k h =
     let r : (m *ℤ pos k) *ℤ (pos u *ℤ pos c) ≡ ((m *ℤ pos u) *ℤ pos k) *ℤ pos c = simp ring in
     l ∙ h ∙ r
 
--- a decimal's word at 10^k holds the decimal times 10^k
+-- a decimal's interval at 10^k holds the decimal times 10^k
 pub decimal_interval_holds : (d : Decimal) (k : ℕ) → Holds (decimal_interval d (pos k)) (numerator d *ℤ pos (10 ^ k)) (denominator d)
 decimal_interval_holds d k =
     let f = d.exp +ℤ pos k in

@@ -11,7 +11,7 @@ use Rattle.sys_model.specs.Systems.{Table}
 use Rattle.bounds_report.specs.Differences.{word_at}
 use Rattle.bounds_report.specs.Residuals.{AreSmallIntervals, row_sum}
 
--- a product of a word of the table and a difference
+-- a product of an interval of the table and a difference
 pub term_fits : (n j : ℕ) (zs : List Interval) (a z : Interval) → AreSmallIntervals n zs → j < n → size a ≤ 2 ^ 61 → z ≡ word_at zs j → size a * size z ≤ 2 ^ 126
 term_fits n j zs a z small h l e =
     let f = le-total_to n (λ k. size (word_at zs k)) j h in

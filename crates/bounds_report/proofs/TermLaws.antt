@@ -1,4 +1,4 @@
--- How large the words of the a priori value and the terms of the estimate are.
+-- How large the intervals of the a priori value and the terms of the estimate are.
 use Rattle.std.proofs.Common.{◌≡◌, ℕ, suc, ℤ, pos, negsuc, ◌+ℤ◌, ◌*ℤ◌, ◌≤ℤ◌, ◌+◌, ◌-◌, ◌*◌, ◌^◌, ◌≤◌, unsigned_abs, arith, sym, ap, ◌∙◌}
 use Rattle.std.proofs.Math.Nat.{mul-le-mul, mul-le-mul_right}
 use Rattle.std.proofs.Math.Decide.{dec_le}
@@ -64,7 +64,7 @@ ceil_at_most : (z e : ℤ) (k m : ℕ) → unsigned_abs (z *ℤ pos (ten_over e)
 ceil_at_most z (pos n) k m h = scaled_up z n k m (omega (arith, h))
 ceil_at_most z (negsuc n) k m h = ceil_below z n k m (omega (arith, ints, h))
 
--- the word of an a priori value
+-- the interval of an a priori value
 pub apriori_small : (d : Decimal) (k : ℤ) → IsAtMost (10 ^ 12) d → pos 0 ≤ℤ k → k ≤ℤ pos 20 → size (decimal_interval d k) ≤ 10 ^ 32
 apriori_small d (pos k) h l m =
     let t = ten_le k 20 (omega (arith, ints)) in
@@ -73,7 +73,7 @@ apriori_small d (pos k) h l m =
     omega (arith, t, f, c)
 apriori_small d (negsuc k) h l m = absurd (omega (arith, ints))
 
--- the ends of the word of a decimal are in order
+-- the ends of the interval of a decimal are in order
 pub ends_ordered : (m k : ℤ) → floor_scaled m k ≤ℤ ceil_scaled m k
 ends_ordered m k = floor_scaled_le_ceil m m k (omega (arith, ints))
 

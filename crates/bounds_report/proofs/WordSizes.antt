@@ -1,4 +1,4 @@
--- How large differences of words are.
+-- How large differences of intervals are.
 use Rattle.std.proofs.Common.{◌+◌, ◌^◌, ◌≤◌, ◌<◌, FitsSigned, arith}
 use Rattle.std.proofs.Math.IntN.{◌-ℤ◌}
 use Rattle.std.specs.Int.{w128}

@@ -10,7 +10,7 @@ use Rattle.bounds_report.specs.Rows.{RowLists, row_count, power_at, apriori_at, 
 abbrev pub difference_of : RowLists → ℕ → Interval
 difference_of r j = working_difference (apriori_at r j) (power_at r j) (vector_at r j)
 
--- the words of a list
+-- the intervals of a list
 abbrev pub word_at : List Interval → ℕ → Interval
 word_at zs j = slice_index_or zs j zero_interval
 

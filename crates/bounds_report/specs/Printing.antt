@@ -56,13 +56,13 @@ pub record IsPrintable (x0 : Decimal) (e y : ℤ) (w : ℕ) : Type 0 where
   pub upper : unsigned_abs (upper_of x0 e y w) ≤ 10 ^ 37
   pub estimate : unsigned_abs (estimate_of x0 e y) ≤ 10 ^ 33
 
--- the word of the estimate minus x0 at 10^20: zero where the estimate is x0
+-- the interval of the estimate minus x0 at 10^20: zero where the estimate is x0
 abbrev pub difference : Decimal → ℤ → Interval
 difference x0 estimate =
     if nat_le (size (interval_sub (decimal_interval x0 (pos 16)) (point_interval estimate))) 0 then point_interval (pos 0)
     else interval_sub (point_interval (estimate *ℤ pos (10 ^ 4))) (decimal_interval x0 (pos 20))
 
--- that word in units of the working table
+-- that interval in units of the working table
 abbrev pub working_difference : Decimal → ℤ → ℤ → Interval
 working_difference x0 e y = interval_scale10 (difference x0 (estimate_of x0 e y)) (e -ℤ pos 8)
 

@@ -12,7 +12,7 @@ use Rattle.bounds_report.specs.declared.ends.Ends.{Ends}
 use Rattle.bounds_report.specs.declared.numbers.Printed.{Printed}
 use Rattle.bounds_report.specs.declared.PrintError.{PrintError}
 
--- a list of n words, with sizes of at most 2^65 in sum
+-- a list of n intervals, with sizes of at most 2^65 in sum
 pub record AreSmallIntervals (n : ℕ) (zs : List Interval) : Type 0 where
   pub len : length zs ≡ n
   pub sum : total_to n (λ j. size (word_at zs j)) ≤ 2 ^ 65

@@ -20,7 +20,7 @@ use std::alloc::Global;
 /// The greatest sum of the sizes of the differences.
 const SUM_LIMIT: u128 = 1 << 65;
 
-/// Whether the word holds this number alone.
+/// Whether the interval holds this number alone.
 fn is_exactly(w: &Iv, v: i128) -> bool
     requires word { size w.now ≤ 10 ^ 37 }
     requires number { unsigned_abs v ≤ 10 ^ 37 }
@@ -29,7 +29,7 @@ fn is_exactly(w: &Iv, v: i128) -> bool
     word_difference(w, &Iv::point(v)).mag() == 0
 }
 
-/// The word at 10^20 of an estimate in units of 10^-16.
+/// The interval at 10^20 of an estimate in units of 10^-16.
 fn estimate_word(estimate: i128) -> Iv
     requires { unsigned_abs estimate ≤ 10 ^ 33 }
     ensures value { result ≡ point_interval (estimate *ℤ pos (10 ^ 4)) }
@@ -38,7 +38,7 @@ fn estimate_word(estimate: i128) -> Iv
     Iv::point(estimate * 10_000)
 }
 
-/// The word at 10^20 of the estimate minus the a priori value: zero where they are equal.
+/// The interval at 10^20 of the estimate minus the a priori value: zero where they are equal.
 fn distance(x0: &Dec, estimate: i128) -> Iv
     requires most { IsAtMost (10 ^ 12) x0.now }
     requires small { unsigned_abs estimate ≤ 10 ^ 33 }

@@ -11,7 +11,7 @@ use crate::words::{word_difference, word_product};
 use equil::Working;
 use interval_word::Iv;
 
-/// The product of a word of the table and a difference.
+/// The product of an interval of the table and a difference.
 fn term<const N: usize>(w: &Working<N>, zs: &[Iv], i: usize, j: usize) -> Iv
     requires differences { AreSmallIntervals w.now.a.size zs.now }
     requires row { i < w.now.a.size }

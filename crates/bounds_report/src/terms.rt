@@ -1,4 +1,4 @@
-//! What the printed numbers are made of: the words of the a priori values, and what the start vector and the radii add
+//! What the printed numbers are made of: the intervals of the a priori values, and what the start vector and the radii add
 //! to them.
 
 ghost use Rattle.std.specs.Prelude.{◌≡◌, ℤ, pos, ◌+ℤ◌, ◌-ℤ◌, ◌≤ℤ◌, ◌*◌, ◌≤◌, ◌<◌, ◌^◌, unsigned_abs, SomeIff};
@@ -15,7 +15,7 @@ use decimal_e::{Dec, ceil_at, floor_at};
 use interval_word::Iv;
 use whole_numbers::{scale_ceil, scale_floor};
 
-/// The word of a decimal at the scale 10^k, and None exactly where an end passes 10^37 in size.
+/// The interval of a decimal at the scale 10^k, and None exactly where an end passes 10^37 in size.
 #[tactic(auto, using(crate::proofs::TermLaws::word_rules))]
 fn word_at(d: &Dec, k: i32) -> Option<Iv>
     requires low { pos 0 ≤ℤ k }
@@ -27,7 +27,7 @@ fn word_at(d: &Dec, k: i32) -> Option<Iv>
     Iv::new(lo, hi)
 }
 
-/// The word of an a priori value at the scale 10^k.
+/// The interval of an a priori value at the scale 10^k.
 #[tactic(auto, using(crate::proofs::TermLaws::word_rules))]
 pub fn apriori_word(x0: &Dec, k: i32) -> Iv
     requires most { IsAtMost (10 ^ 12) x0.now }
@@ -42,7 +42,7 @@ pub fn apriori_word(x0: &Dec, k: i32) -> Iv
     }
 }
 
-/// The word of a row's a priori value in units of 10^-16.
+/// The interval of a row's a priori value in units of 10^-16.
 pub fn printed_word(rows: &Rows, i: usize) -> Iv
     requires { i < row_count rows.now }
     ensures value { result ≡ decimal_interval (apriori_at rows.now i) (pos 16) }

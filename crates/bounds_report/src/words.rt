@@ -1,4 +1,4 @@
-//! Differences and products of words, with how large they are.
+//! Differences and products of intervals, with how large they are.
 
 ghost use Rattle.std.specs.Prelude.{◌≡◌, ◌+◌, ◌*◌, ◌≤◌, ◌<◌, ◌^◌};
 ghost use Rattle.whole_numbers.specs.Intervals.{size, interval_sub, interval_mul};

@@ -63,7 +63,7 @@ agree_self n f g i j v size s a b column lower row = sym (s.others a b (omega ar
 pub waiting_set : (n : ℕ) (m : ℕ → ℕ → ℤ) (f g : SquareTable) (i j : ℕ) (v : ℤ) → n ≤ f.size → IsWaiting n m (square_at f) (j + 1) → SetsNumber f g i j v → IsWaiting n m (square_at g) (j + 1)
 waiting_set n m f g i j v size waiting s a b column lower row = s.others a b (omega arith) (omega arith) (λ e. let p = e.1 in absurd (omega arith)) ∙ waiting a b column lower row
 
--- the words of column j from row i on are still those of m
+-- the numbers of column j from row i on are still those of m
 abbrev pub IsRest : ℕ → (ℕ → ℕ → ℤ) → (ℕ → ℕ → ℤ) → ℕ → ℕ → Type 0
 IsRest n m f j i = (a : ℕ) → i ≤ a → a < n → f a j ≡ m a j
 

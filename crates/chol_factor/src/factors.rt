@@ -1,12 +1,13 @@
 //! The type of a factor.
 
-ghost use Rattle.std.specs.Prelude.{◌≡◌, ◌≤◌, ◌<◌, ◌^◌, ℕ, pos, ◌≤ℤ◌, length, unsigned_abs};
+ghost use Rattle.std.specs.Prelude.{◌≡◌, ◌≤◌, ◌<◌, ◌^◌, ℕ, pos, ◌≤ℤ◌, length, unsigned_abs, IfOk};
 ghost use Rattle.chol_factor.specs.Factor.{IsFactorTable};
 ghost use Rattle.whole_numbers.specs.Lists.{at, AllAtMost};
-ghost use Rattle.whole_numbers.specs.Squares.{square_at};
+ghost use Rattle.whole_numbers.specs.Squares.{square_at, IsTranspose};
 
+use std::alloc::{AllocError, Global};
 use std::marker::Model;
-use whole_numbers::Square;
+use whole_numbers::{Square, transposed};
 
 /// A square table of numbers of at most 2^61 in size in units of 2^-60, with a diagonal above 0. Above the diagonal stands
 /// what stood there in the table that it is made from.
@@ -60,5 +61,13 @@ impl Factor {
         ensures small { unsigned_abs result ≤ 2 ^ 61 }
     {
         self.square.get(i, i)
+    }
+
+    /// The transpose: its columns are the rows of the factor.
+    pub fn transposed(&self, alloc: Global) -> Result<Square, AllocError>
+        ensures transpose { IfOk result (IsTranspose self.now) }
+        ensures small { IfOk result (λ t. AllAtMost (2 ^ 61) t.numbers) }
+    {
+        transposed(alloc, &self.square)
     }
 }

@@ -1,8 +1,8 @@
 -- What determines the columns of an inverse: two columns of one factor at one scale are one, and a row that fails its
 -- bounds is one of no column.
-use Rattle.std.proofs.Common.{◌≡◌, ◌≤◌, ◌<◌, ◌+◌, ◌-◌, ◌^◌, ◌∙◌, ℕ, zero, suc, ℤ, pos, ◌*ℤ◌, ◌-ℤ◌, arith, refl, sym, ap, subst, unsigned_abs}
+use Rattle.std.proofs.Common.{◌≡◌, ◌≤◌, ◌<◌, ◌+◌, ◌-◌, ◌^◌, ◌∙◌, ℕ, zero, suc, ℤ, pos, ◌-ℤ◌, arith, refl, sym, ap, subst, unsigned_abs}
 use Rattle.std.proofs.Math.Decide.{dec_lt}
-use Rattle.whole_numbers.proofs.ListLaws.{same_below, minus_same, product_same}
+use Rattle.whole_numbers.proofs.ListLaws.{same_below, minus_same}
 use Rattle.whole_numbers.specs.Lists.{SameBelow}
 use Rattle.whole_numbers.specs.Sum.{unit}
 use Rattle.whole_numbers.proofs.Sums.{sum_to_same}
@@ -13,7 +13,7 @@ use Rattle.chol_guess.specs.Pilots.{IsPilot, IsCondition, nearest}
 use Rattle.enclosures.specs.Pilots.{PilotTable, pilot_word}
 use Rattle.chol_guess.specs.Rows.{QuotientFits, IsBackFrom}
 
--- two tables have the same words up to the diagonal, in the rows below n
+-- two tables have the same numbers up to the diagonal, in the rows below n
 abbrev pub SameLower : ℕ → (ℕ → ℕ → ℤ) → (ℕ → ℕ → ℤ) → Type 0
 SameLower n f h = (i k : ℕ) → i < n → k ≤ i → f i k ≡ h i k
 
@@ -25,7 +25,7 @@ pub up_left_same : (f h : ℕ → ℕ → ℤ) (g c : ℕ) (u v : ℕ → ℤ) (
 up_left_same f h g c u v n i row same below =
     ap (λ s. unit c (pos (2 ^ (g + 10))) i -ℤ s) (sum_to_same i (λ k. fixed_product (f i k) (u k)) (λ k. fixed_product (h i k) (v k)) (λ k l. equal_fixed_products (f i k) (h i k) (u k) (v k) (same i k row (omega arith)) (below k l)))
 
--- the same rows of another list, under another factor with the same lower words
+-- the same rows of another list, under another factor with the same lower numbers
 pub up_same : (f h : ℕ → ℕ → ℤ) (g c : ℕ) (u v : ℕ → ℤ) (n m : ℕ) → m ≤ n → SameLower n f h → SameBelow m u v → IsForwardSolution m f g c u → IsForwardSolution m h g c v
 up_same f h g c u v n m le same below up = record {
   rows = λ i row. sym (below i row) ∙ up.rows i row ∙ equal_fixed_quotients _ _ (f i i) (h i i) (up_left_same f h g c u v n i (omega arith) same (λ k l. below k (omega arith))) (same i i (omega arith) (omega arith));
@@ -140,7 +140,7 @@ column_alone n f g c x y a b =
     let moved = down_same f f a.u b.u x x n 0 (same_lower n f) ups (λ k from row. refl) (down_from n 0 f a.u x a.down) in
     λ k h. down_alone n 0 f b.u x y moved (down_from n 0 f b.u y b.down) k (omega arith) h
 
--- a column of one factor is one of each with the same lower words
+-- a column of one factor is one of each with the same lower numbers
 pub column_same : (n : ℕ) (f h : ℕ → ℕ → ℤ) (g c : ℕ) (x : ℕ → ℤ) → SameLower n f h → IsInverseColumn n f g c x → IsInverseColumn n h g c x
 column_same n f h g c x same a = record {
   u = a.u;
@@ -172,7 +172,7 @@ no_greater n m p q a b less = a.greatest q.g b.scale less (stay_same n b.f a.f q
 pub pilot_alone : (n : ℕ) (m : ℕ → ℕ → ℤ) (p q : PilotTable) → IsPilot n m p → IsPilot n m q → p.g ≡ q.g
 pilot_alone n m p q a b = let low = no_greater n m p q a b in let high = no_greater n m q p b a in omega arith
 
--- and equal words
+-- and equal numbers
 pub pilot_words_alone : (n : ℕ) (m : ℕ → ℕ → ℤ) (p q : PilotTable) → IsPilot n m p → IsPilot n m q → (i c : ℕ) → i < n → c < n → pilot_word p i c ≡ pilot_word q i c
 pilot_words_alone n m p q a b i c row column =
     let x = a.columns c column in

@@ -4,4 +4,3 @@ pub mod Makings
 pub mod Placed
 pub mod Ranges
 pub mod Steps
-pub mod Written

@@ -1,5 +1,5 @@
 -- What a pilot is made of.
-use Rattle.std.proofs.Common.{◌≡◌, ◌<◌, ◌+◌, ◌∙◌, inl, inr, ℕ, ℤ, List, arith, subst, sym, ap, refl}
+use Rattle.std.proofs.Common.{◌≡◌, ◌<◌, ◌+◌, ◌∙◌, inl, inr, ℕ, ℤ, List, arith, subst, sym}
 use Rattle.sym_blocks.specs.Tables.{SymTable}
 use Rattle.whole_numbers.specs.Squares.{SquareTable, square_at, SetsNumber}
 use Rattle.whole_numbers.proofs.Cases.{last_or_before}
@@ -10,29 +10,27 @@ use Rattle.chol_factor.specs.declared.FactorError.TheVariants as factor
 use Rattle.chol_guess.specs.Made.{IsPilotOf, IsRefusedOf}
 use Rattle.chol_guess.specs.Pilots.{IsPilot, IsCondition, nearest}
 use Rattle.enclosures.specs.Pilots.{PilotTable, pilot_word}
-use Rattle.whole_numbers.specs.Lists.{grid}
 use Rattle.chol_guess.specs.Columns.{IsInverseColumn}
 use Rattle.chol_guess.specs.Midpoints.{midpoints, HasRows}
 use Rattle.chol_guess.specs.Refusals.{IsRefused, of_factor}
 use Rattle.chol_guess.proofs.Carried.{SameSquare, pilot_carries, pivot_carries, condition_carries}
-use Rattle.chol_guess.specs.Rows.{IsGreatestScale, IsFailure}
+use Rattle.chol_guess.specs.Rows.{IsGreatestScale, IsFailure, PlacesColumns}
 use Rattle.chol_guess.specs.declared.PilotError.{PilotError}
 use Rattle.chol_guess.specs.declared.PilotError.TheVariants.{Pivot, Condition, Memory}
 
-made_of : (n : ℕ) (f : ℕ → ℕ → ℤ) (g : ℕ) (ws : List ℤ) → IsGreatestScale n f g ws → IsPilotOf n f (record { g = g; size = n; words = ws })
-made_of n f g ws best = record { size = refl; scale = best.scale; columns = best.columns; greatest = best.greatest }
-
-pub pilot_made : (n : ℕ) (f : ℕ → ℕ → ℤ) (p : PilotTable) (g m : ℕ) (ws vs : List ℤ) → p ≡ record { g = g; size = m; words = vs } → n ≡ m → ws ≡ vs → IsGreatestScale n f g ws → IsPilotOf n f p
-pilot_made n f p g m ws vs is size same best =
-    subst (IsPilotOf n f) (sym is)
-    (subst (λ k. IsPilotOf n f (record { g = g; size = k; words = vs })) size
-    (subst (λ l. IsPilotOf n f (record { g = g; size = n; words = l })) same (made_of n f g ws best)))
+pub pilot_made : (n : ℕ) (f : ℕ → ℕ → ℤ) (p : PilotTable) (g m : ℕ) (ws : List ℤ) (r : SquareTable) → p ≡ record { g = g; size = m; words = ws } → m ≡ n → r.size ≡ n → ws ≡ r.numbers → IsGreatestScale n f g r → IsPilotOf n f p
+pilot_made n f p g m ws r is size room same best = subst (IsPilotOf n f) (sym is) (record {
+  size = size;
+  scale = best.scale;
+  columns = subst (λ k. PlacesColumns n f g (record { size = k; numbers = ws }) n) (room ∙ sym size) (subst (λ l. PlacesColumns n f g (record { size = r.size; numbers = l }) n) (sym same) best.columns);
+  greatest = best.greatest;
+})
 
 -- ---- of a factor, and of the table that it is one of
 columns_of_factor : (n : ℕ) (f : ℕ → ℕ → ℤ) (p : PilotTable) → IsPilotOf n f p → (c : ℕ) → c < n → (x : ℕ → ℤ) × (IsInverseColumn n f p.g c x × ((i : ℕ) → i < n → pilot_word p i c ≡ nearest (x i)))
 columns_of_factor n f p made c h =
     let placed = made.columns c h in
-    (placed.0, (placed.1.0, λ i row. ap (λ k. grid k p.words i c) made.size ∙ placed.1.1 i row))
+    (placed.0, (placed.1.0, λ i row. placed.1.1 i row))
 
 pilot_of_factor : (n : ℕ) (m f : ℕ → ℕ → ℤ) (p : PilotTable) → HasColumns n m f n → IsPilotOf n f p → IsPilot n m p
 pilot_of_factor n m f p factor made = record { size = made.size; scale = made.scale; f = f; factor = factor; columns = columns_of_factor n f p made; greatest = made.greatest }

@@ -1,21 +1,22 @@
 -- The columns at a scale, one more at a time, and the scales from the greatest down.
-use Rattle.std.proofs.Common.{◌≡◌, ◌<◌, ◌+◌, ◌-◌, ◌∙◌, ℕ, ℤ, List, arith, subst, below_more}
+use Rattle.std.proofs.Common.{◌≡◌, ◌<◌, ◌+◌, ◌-◌, ◌∙◌, ℕ, ℤ, arith, subst, below_more}
 use Rattle.std.proofs.Math.Decide.{dec_lt}
+use Rattle.whole_numbers.specs.Squares.{SquareTable}
 use Rattle.chol_guess.specs.Columns.{IsInverseColumn, StayInBounds}
 use Rattle.enclosures.specs.Pilots.{IsPilotScale}
 use Rattle.chol_guess.specs.Rows.{HasColumn, PlacesColumns, KeepsColumns, IsFirstFailing, FailAbove}
 
-pub placed_stay : (n : ℕ) (f : ℕ → ℕ → ℤ) (g : ℕ) (ws : List ℤ) (c : ℕ) → PlacesColumns n f g ws c → StayInBounds n f g c
+pub placed_stay : (n : ℕ) (f : ℕ → ℕ → ℤ) (g : ℕ) (ws : SquareTable) (c : ℕ) → PlacesColumns n f g ws c → StayInBounds n f g c
 placed_stay n f g ws c placed k h = let p = placed k h in (p.0, p.1.0)
 
-pub first_failing : (n : ℕ) (f : ℕ → ℕ → ℤ) (g : ℕ) (ws : List ℤ) (c : ℕ) → c < n → PlacesColumns n f g ws c → ((y : ℕ → ℤ) → ¬ (IsInverseColumn n f g c y)) → IsFirstFailing n f g c
+pub first_failing : (n : ℕ) (f : ℕ → ℕ → ℤ) (g : ℕ) (ws : SquareTable) (c : ℕ) → c < n → PlacesColumns n f g ws c → ((y : ℕ → ℤ) → ¬ (IsInverseColumn n f g c y)) → IsFirstFailing n f g c
 first_failing n f g ws c within placed none = record {
   within = within;
   before = placed_stay n f g ws c placed;
   here = λ all. let p = all c (omega arith) in none p.0 p.1;
 }
 
-pub placed_more : (n : ℕ) (f : ℕ → ℕ → ℤ) (g : ℕ) (ws new : List ℤ) (c : ℕ) → c < n → PlacesColumns n f g ws c → KeepsColumns n c ws new → HasColumn n f g new c → PlacesColumns n f g new (c + 1)
+pub placed_more : (n : ℕ) (f : ℕ → ℕ → ℤ) (g : ℕ) (ws new : SquareTable) (c : ℕ) → c < n → PlacesColumns n f g ws c → KeepsColumns n c ws new → HasColumn n f g new c → PlacesColumns n f g new (c + 1)
 placed_more n f g ws new c within placed kept here =
     below_more (λ k. HasColumn n f g new k) c (λ k l. let p = placed k l in (p.0, (p.1.0, λ i row. kept i k row (omega arith) (omega arith) ∙ p.1.1 i row))) here
 

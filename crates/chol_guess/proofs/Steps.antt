@@ -1,8 +1,8 @@
 -- What the code computes of one row of a column.
-use Rattle.std.proofs.Common.{◌≡◌, ◌≢◌, ◌≤◌, ◌<◌, ◌+◌, ◌-◌, ◌*◌, ◌^◌, ◌∙◌, ℕ, suc, ℤ, pos, ◌-ℤ◌, List, length, take, drop, slice_set, arith, refl, sym, ap, subst, unsigned_abs, below_more}
+use Rattle.std.proofs.Common.{◌≡◌, ◌≢◌, ◌≤◌, ◌<◌, ◌+◌, ◌-◌, ◌^◌, ◌∙◌, ℕ, suc, ℤ, pos, ◌-ℤ◌, List, length, take, drop, slice_set, arith, refl, sym, ap, subst, unsigned_abs, below_more}
 use Rattle.std.proofs.Math.Decide.{dec_lt}
 use Rattle.std.proofs.Math.IntN.{*ℤ-zero, zero-*ℤ}
-use Rattle.std.proofs.Math.Nat.{zero-div, mul-le-mul_right}
+use Rattle.std.proofs.Math.Nat.{zero-div}
 use Rattle.std.proofs.lemmas.Int.{ints}
 use Rattle.std.proofs.lemmas.List.{get_or-take, get_or-drop, get_or-set_same, get_or-set_other, length-take, length-drop}
 use Rattle.whole_numbers.specs.Sum.{sum_to, unit}
@@ -12,7 +12,7 @@ use Rattle.chol_factor.specs.Factor.{fixed_product, fixed_quotient}
 use Rattle.chol_factor.proofs.Alone.{equal_fixed_products}
 use Rattle.whole_numbers.specs.Lists.{at, SameBelow}
 use Rattle.chol_guess.specs.Columns.{forward_left, back_left, sum_past, IsForwardSolution}
-use Rattle.chol_guess.specs.Rows.{IsForwardBefore, IsTransposed, IsBackFrom, QuotientFits}
+use Rattle.chol_guess.specs.Rows.{IsForwardBefore, IsBackFrom, QuotientFits}
 use Rattle.chol_guess.proofs.Alone.{SameFrom, up_same, up_left_same, up_fewer, up_alone, down_same, down_left_same, same_lower}
 use Rattle.chol_guess.proofs.Ranges.{sum_to_from, sum_to_none}
 use Rattle.whole_numbers.proofs.ListLaws.{same_below}
@@ -60,21 +60,16 @@ earlier_is n i f g c us row s up len words is =
     (λ k l. equal_fixed_products _ _ _ _ (at_take_drop row c (i - c) k l ∙ words (c + k) (let r = up.row in omega arith)) (at_take_drop us c (i - c) k l))
     ∙ sym (sum_to_from c i (λ k. fixed_product (f i k) (at us k)) up.column (λ k l. part_zero (f i k) (at us k) (up_zero i f g c (at us) up.column up.before k l)))
 
-later_term : (n i d : ℕ) (f : ℕ → ℕ → ℤ) (ts xs : List ℤ) (a m b p : ℕ) → IsTransposed n f ts → i < n → a ≡ i * n + suc i → m ≡ n - suc i → b ≡ suc i → p ≡ n - suc i → d < m
-    → fixed_product (at (take m (drop a ts)) d) (at (take p (drop b xs)) d) ≡ fixed_product (f (suc i + d) i) (at xs (suc i + d))
-later_term n i d f ts xs a m b p t row start count first rest lt =
-    let place : a + d ≡ i * n + (suc i + d) = omega arith in
-    let past : b + d ≡ suc i + d = omega arith in
-    equal_fixed_products _ _ _ _ (at_take_drop ts a m d lt ∙ ap (at ts) place ∙ t.words i (suc i + d) row (omega arith)) (at_take_drop xs b p d (omega arith) ∙ ap (at xs) past)
-
-pub later_is : (n i : ℕ) (f : ℕ → ℕ → ℤ) (ts xs : List ℤ) (s : ℤ) (a m b p : ℕ) → IsTransposed n f ts → i < n → a ≡ i * n + suc i → m ≡ n - suc i → b ≡ suc i → p ≡ n - suc i
-    → s ≡ sum_to (length (take m (drop a ts))) (λ k. fixed_product (at (take m (drop a ts)) k) (at (take p (drop b xs)) k))
+pub later_is : (n i : ℕ) (f : ℕ → ℕ → ℤ) (row xs : List ℤ) (s : ℤ) (b m : ℕ) → length row ≡ n → ((k : ℕ) → k < n → at row k ≡ f k i) → i < n → b ≡ suc i → m ≡ n - suc i
+    → s ≡ sum_to (length (take m (drop b row))) (λ k. fixed_product (at (take m (drop b row)) k) (at (take m (drop b xs)) k))
     → s ≡ sum_past n i (λ k. fixed_product (f k i) (at xs k))
-later_is n i f ts xs s a m b p t row start count first rest is =
+later_is n i f row xs s b m len words inside start count is =
     is
-    ∙ ap (λ l. sum_to l (λ k. fixed_product (at (take m (drop a ts)) k) (at (take p (drop b xs)) k))) (slice_len ts a m (let square = t.square in let end = mul-le-mul_right n row in omega arith) ∙ count)
-    ∙ sum_to_same (n - suc i) (λ k. fixed_product (at (take m (drop a ts)) k) (at (take p (drop b xs)) k)) (λ d. fixed_product (f (suc i + d) i) (at xs (suc i + d)))
-    (λ d l. later_term n i d f ts xs a m b p t row start count first rest (omega arith))
+    ∙ ap (λ l. sum_to l (λ k. fixed_product (at (take m (drop b row)) k) (at (take m (drop b xs)) k))) (slice_len row b m (omega arith) ∙ count)
+    ∙ sum_to_same (n - suc i) (λ k. fixed_product (at (take m (drop b row)) k) (at (take m (drop b xs)) k)) (λ d. fixed_product (f (suc i + d) i) (at xs (suc i + d)))
+    (λ d l.
+    let past : b + d ≡ suc i + d = omega arith in
+    equal_fixed_products _ _ _ _ (at_take_drop row b m d (omega arith) ∙ ap (at row) past ∙ words (suc i + d) (omega arith)) (at_take_drop xs b m d (omega arith) ∙ ap (at xs) past))
 
 -- ---- what is left
 pub left_here : (f : ℕ → ℕ → ℤ) (g c i : ℕ) (u : ℕ → ℤ) (s : ℤ) → i ≡ c → s ≡ sum_to i (λ k. fixed_product (f i k) (u k)) → forward_left f g c u i ≡ pos (2 ^ (g + 10)) -ℤ s

@@ -1,10 +1,10 @@
--- The midpoints of a table of intervals, in units of its words.
+-- The midpoints of a table of intervals, in its units.
 use Rattle.std.specs.Prelude.{◌≡◌, ◌<◌, ℕ, ℤ}
 use Rattle.whole_numbers.specs.Intervals.{midpoint}
 use Rattle.whole_numbers.specs.Squares.{SquareTable, square_at}
 use Rattle.sym_blocks.specs.Tables.{SymTable, word}
 
--- the midpoint of the word (i, j)
+-- the midpoint of the interval (i, j)
 abbrev pub midpoints : SymTable → ℕ → ℕ → ℤ
 midpoints a i j = midpoint (word a i j)
 

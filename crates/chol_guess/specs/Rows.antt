@@ -1,18 +1,19 @@
 -- Columns as far as they are made, and the lists that they are read from and written to. Private functions speak of these;
 -- the scales at the end, from KeepsColumns on, are also those of Made.
-use Rattle.std.specs.Prelude.{◌≡◌, ◌≢◌, ◌≤◌, ◌<◌, ◌*◌, ◌^◌, ℕ, suc, ℤ, List, length, unsigned_abs}
+use Rattle.std.specs.Prelude.{◌≡◌, ◌≢◌, ◌≤◌, ◌<◌, ◌^◌, ℕ, suc, ℤ, List, length, unsigned_abs}
 use Rattle.chol_factor.specs.Factor.{fixed_quotient}
-use Rattle.whole_numbers.specs.Lists.{at, grid, AllAtMost}
+use Rattle.whole_numbers.specs.Lists.{at, AllAtMost}
+use Rattle.whole_numbers.specs.Squares.{SquareTable, square_at}
 use Rattle.chol_guess.specs.Columns.{back_left, IsForwardSolution, IsInverseColumn, StayInBounds}
 use Rattle.chol_guess.specs.Pilots.{nearest}
 use Rattle.enclosures.specs.Pilots.{IsPilotScale}
 
--- t is the transpose of f with n rows, row by row
-pub record IsTransposed (n : ℕ) (f : ℕ → ℕ → ℤ) (t : List ℤ) : Type 0 where
+-- t is the transpose of f with n rows
+pub record IsTransposed (n : ℕ) (f : ℕ → ℕ → ℤ) (t : SquareTable) : Type 0 where
   pub few : n ≤ 1000
-  pub square : length t ≡ n * n
-  pub words : (i k : ℕ) → i < n → k < n → grid n t i k ≡ f k i
-  pub small : AllAtMost (2 ^ 61) t
+  pub size : t.size ≡ n
+  pub turned : (i k : ℕ) → i < n → k < n → square_at t i k ≡ f k i
+  pub small : AllAtMost (2 ^ 61) t.numbers
 
 -- what is left of a row and its quotient are in bounds
 pub record QuotientFits (left diagonal : ℤ) (limit : ℕ) : Type 0 where
@@ -35,7 +36,7 @@ pub record IsForwardBefore (n i : ℕ) (f : ℕ → ℕ → ℤ) (g c : ℕ) (us
   pub before : IsForwardSolution i f g c (at us)
 
 -- back substitution starts from us, by the transpose t
-pub record IsBackStart (n : ℕ) (f : ℕ → ℕ → ℤ) (t us : List ℤ) : Type 0 where
+pub record IsBackStart (n : ℕ) (f : ℕ → ℕ → ℤ) (t : SquareTable) (us : List ℤ) : Type 0 where
   pub transposed : IsTransposed n f t
   pub len : length us ≡ n
   pub small : AllAtMost (2 ^ 64) us
@@ -46,30 +47,24 @@ pub record IsBackAfter (n i : ℕ) (f : ℕ → ℕ → ℤ) (us xs : List ℤ) 
   pub len : length xs ≡ n
   pub after : IsBackFrom n (suc i) f (at us) (at xs)
 
--- column c is xs, and the others are as before
-pub record IsColumnWritten (n c : ℕ) (xs old new : List ℤ) : Type 0 where
-  pub here : (i : ℕ) → i < n → grid n new i c ≡ at xs i
-  pub others : (i k : ℕ) → i < n → k < n → k ≢ c → grid n new i k ≡ grid n old i k
-  pub small : (a : ℕ) → AllAtMost a xs → AllAtMost a old → AllAtMost a new
-
--- there is room for a column of n rows, in both substitutions, and for the words of n columns
-pub record IsRoom (n : ℕ) (us xs words : List ℤ) : Type 0 where
+-- there is room for a column of n rows, in both substitutions, and r for n columns of small numbers
+pub record IsRoom (n : ℕ) (us xs : List ℤ) (r : SquareTable) : Type 0 where
   pub up : length us ≡ n
   pub down : length xs ≡ n
-  pub square : length words ≡ n * n
-  pub small : AllAtMost (2 ^ 50) words
+  pub size : r.size ≡ n
+  pub small : AllAtMost (2 ^ 50) r.numbers
 
--- the words of the columns but c are as before
-abbrev pub KeepsColumns : ℕ → ℕ → List ℤ → List ℤ → Type 0
-KeepsColumns n c old new = (i k : ℕ) → i < n → k < n → k ≢ c → grid n new i k ≡ grid n old i k
+-- the columns but c are as before
+abbrev pub KeepsColumns : ℕ → ℕ → SquareTable → SquareTable → Type 0
+KeepsColumns n c old new = (i k : ℕ) → i < n → k < n → k ≢ c → square_at new i k ≡ square_at old i k
 
--- column k of the words is that of the inverse at the scale g, to nearest
-abbrev pub HasColumn : ℕ → (ℕ → ℕ → ℤ) → ℕ → List ℤ → ℕ → Type 0
-HasColumn n f g words k = (x : ℕ → ℤ) × (IsInverseColumn n f g k x × ((i : ℕ) → i < n → grid n words i k ≡ nearest (x i)))
+-- column k of r is that of the inverse at the scale g, to nearest
+abbrev pub HasColumn : ℕ → (ℕ → ℕ → ℤ) → ℕ → SquareTable → ℕ → Type 0
+HasColumn n f g r k = (x : ℕ → ℤ) × (IsInverseColumn n f g k x × ((i : ℕ) → i < n → square_at r i k ≡ nearest (x i)))
 
 -- so are the columns before column c
-abbrev pub PlacesColumns : ℕ → (ℕ → ℕ → ℤ) → ℕ → List ℤ → ℕ → Type 0
-PlacesColumns n f g words c = (k : ℕ) → k < c → HasColumn n f g words k
+abbrev pub PlacesColumns : ℕ → (ℕ → ℕ → ℤ) → ℕ → SquareTable → ℕ → Type 0
+PlacesColumns n f g r c = (k : ℕ) → k < c → HasColumn n f g r k
 
 -- column c is the first that fails at the scale g
 pub record IsFirstFailing (n : ℕ) (f : ℕ → ℕ → ℤ) (g c : ℕ) : Type 0 where
@@ -81,10 +76,10 @@ pub record IsFirstFailing (n : ℕ) (f : ℕ → ℕ → ℤ) (g c : ℕ) : Type
 abbrev pub FailAbove : ℕ → (ℕ → ℕ → ℤ) → ℕ → Type 0
 FailAbove n f g = (h : ℕ) → IsPilotScale h → g < h → ¬ (StayInBounds n f h n)
 
--- g is the greatest scale at which all columns stay in bounds, and the words are those of these
-pub record IsGreatestScale (n : ℕ) (f : ℕ → ℕ → ℤ) (g : ℕ) (words : List ℤ) : Type 0 where
+-- g is the greatest scale at which all columns stay in bounds, and these are the columns of r
+pub record IsGreatestScale (n : ℕ) (f : ℕ → ℕ → ℤ) (g : ℕ) (r : SquareTable) : Type 0 where
   pub scale : IsPilotScale g
-  pub columns : PlacesColumns n f g words n
+  pub columns : PlacesColumns n f g r n
   pub greatest : FailAbove n f g
 
 -- column c is the first that fails at the scale 0, and some fail at each greater one

@@ -10,6 +10,7 @@ ghost use Rattle.chol_guess.specs.Rows.{IsTransposed, QuotientFits, IsForwardBef
 
 use crate::kernels::wide_fixed_products;
 use chol_factor::{Factor, fixed_products, fixed_quotient};
+use whole_numbers::Square;
 
 /// The greatest size of what is left of a row.
 const LEFT_LIMIT: u128 = 1 << 66;
@@ -86,17 +87,17 @@ fn forward_substitute(f: &Factor, g: u32, c: usize, u: &mut [i128]) -> bool
 }
 
 /// What the later rows leave of row `i` of `u`.
-fn back_left(f: &Factor, t: &[i64], u: &[i128], x: &[i64], i: usize) -> i128
+fn back_left(f: &Factor, t: &Square, u: &[i128], x: &[i64], i: usize) -> i128
     requires start { IsBackStart f.now.size (square_at f.now) t.now u.now }
     requires after { IsBackAfter f.now.size i (square_at f.now) u.now x.now }
     ensures { result ≡ back_left f.now.size (square_at f.now) (at u.now) (at x.now) i }
 {
     let n = f.size();
-    u[i] - fixed_products(&t[i * n + i + 1..i * n + n], &x[i + 1..n])
+    u[i] - fixed_products(&t.row(i)[i + 1..n], &x[i + 1..n])
 }
 
 /// The number of row `i`, and None exactly where it passes its bounds.
-fn next_back(f: &Factor, t: &[i64], u: &[i128], x: &[i64], i: usize) -> Option<i64>
+fn next_back(f: &Factor, t: &Square, u: &[i128], x: &[i64], i: usize) -> Option<i64>
     requires start { IsBackStart f.now.size (square_at f.now) t.now u.now }
     requires after { IsBackAfter f.now.size i (square_at f.now) u.now x.now }
     ensures { SomeIff result (QuotientFits (back_left f.now.size (square_at f.now) (at u.now) (at x.now) i) (square_at f.now i i) (2 ^ 60)) (fixed_quotient (back_left f.now.size (square_at f.now) (at u.now) (at x.now) i) (square_at f.now i i)) }
@@ -108,7 +109,7 @@ fn next_back(f: &Factor, t: &[i64], u: &[i128], x: &[i64], i: usize) -> Option<i
 }
 
 /// Solves for `u` by the transpose of the factor, from the last row on, and answers whether all of it stays in bounds.
-fn back_substitute(f: &Factor, t: &[i64], u: &[i128], x: &mut [i64]) -> bool
+fn back_substitute(f: &Factor, t: &Square, u: &[i128], x: &mut [i64]) -> bool
     requires start { IsBackStart f.now.size (square_at f.now) t.now u.now }
     requires len { length x.old ≡ f.now.size }
     ensures down { OnTrue result (IsBackSolution f.now.size (square_at f.now) (at u.now) (at x.new)) }
@@ -124,7 +125,7 @@ fn back_substitute(f: &Factor, t: &[i64], u: &[i128], x: &mut [i64]) -> bool
 }
 
 /// Makes column `c` at the scale `g`, and answers whether all of it stays in bounds.
-pub fn column(f: &Factor, t: &[i64], g: u32, c: usize, u: &mut [i128], x: &mut [i64]) -> bool
+pub fn column(f: &Factor, t: &Square, g: u32, c: usize, u: &mut [i128], x: &mut [i64]) -> bool
     requires transposed { IsTransposed f.now.size (square_at f.now) t.now }
     requires scale { g ≤ 50 }
     requires within { c < f.now.size }

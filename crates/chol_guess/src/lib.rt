@@ -11,7 +11,6 @@ use std::alloc::AllocError;
 use thiserror::Error;
 
 mod columns;
-mod grids;
 mod kernels;
 mod midpoints;
 mod pilots;

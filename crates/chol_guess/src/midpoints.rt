@@ -8,7 +8,7 @@ use equil::Working;
 use std::alloc::{AllocError, Global};
 use whole_numbers::Square;
 
-/// The midpoint of the working word (i, j).
+/// The midpoint of the working interval (i, j).
 fn midpoint<const N: usize>(w: &Working<N>, i: usize, j: usize) -> i64
     requires row { i < w.now.a.size }
     requires column { j < w.now.a.size }
@@ -33,7 +33,7 @@ fn fill_row<const N: usize>(s: &mut Square, w: &Working<N>, i: usize)
     }
 }
 
-/// The midpoints of all working words.
+/// The midpoints of all working intervals.
 pub fn midpoint_square<const N: usize>(alloc: Global, w: &Working<N>) -> Result<Square, AllocError>
     ensures size { IfOk result (λ s. s.size ≡ w.now.a.size) }
     ensures small { IfOk result (λ s. AllAtMost (2 ^ 61) s.numbers) }

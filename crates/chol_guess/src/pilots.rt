@@ -8,7 +8,6 @@ ghost use Rattle.chol_guess.specs.Pilots.{IsPilot};
 ghost use Rattle.chol_guess.specs.Refusals.{IsRefused};
 
 use crate::PilotError;
-use crate::grids::{transpose, zeros};
 use crate::midpoints::midpoint_square;
 use crate::scales::greatest_scale;
 use chol_factor::{Factor, factor};
@@ -16,6 +15,7 @@ use enclosures::Pilot;
 use equil::Working;
 use std::alloc::Global;
 use std::thread::Threads;
+use whole_numbers::Square;
 
 /// The pilot of the table that has this factor: its columns at the greatest scale at which all of them stay in their
 /// bounds. Condition comes exactly where there is no such scale, with the first column that fails at the least one.
@@ -25,12 +25,12 @@ pub fn pilot_of(alloc: Global, f: &Factor) -> Result<Pilot, PilotError>
     ensures refused { IfErr result (IsRefusedOf f.now.size (square_at f.now)) }
 {
     let n = f.size();
-    let t = transpose(alloc, f)?;
+    let t = f.transposed(alloc)?;
     let mut u = vec![in alloc; 0i128; n]?;
     let mut x = vec![in alloc; 0i64; n]?;
-    let mut words = zeros(alloc, n)?;
-    match greatest_scale(f, &t, &mut u, &mut x, &mut words) {
-        Ok(g) => Ok(Pilot::new(g, n, words)),
+    let mut r = Square::zeros(alloc, n)?;
+    match greatest_scale(f, &t, &mut u, &mut x, &mut r) {
+        Ok(g) => Ok(Pilot::new(g, n, r.into_numbers())),
         Err(col) => Err(PilotError::Condition { col }),
     }
 }

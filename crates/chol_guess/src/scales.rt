@@ -9,8 +9,8 @@ ghost use Rattle.chol_guess.specs.Pilots.{nearest};
 ghost use Rattle.chol_guess.specs.Rows.{IsTransposed, HasColumn, PlacesColumns, KeepsColumns, IsFirstFailing, IsGreatestScale, IsFailure, IsRoom};
 
 use crate::columns::column;
-use crate::grids::write_column;
 use chol_factor::Factor;
+use whole_numbers::{Square, set_column};
 
 /// The number over 1024, to nearest.
 fn nearest(x: i64) -> i64
@@ -32,75 +32,78 @@ fn round(x: &mut [i64])
     }
 }
 
-/// Writes column `c` at the scale `g` into the words, and answers whether all of it stays in bounds.
+/// Writes column `c` at the scale `g` into `r`, and answers whether all of it stays in bounds.
 fn place_column(
     f: &Factor,
-    t: &[i64],
+    t: &Square,
     g: u32,
     c: usize,
     u: &mut [i128],
     x: &mut [i64],
-    words: &mut [i64],
+    r: &mut Square,
 ) -> bool
     requires transposed { IsTransposed f.now.size (square_at f.now) t.now }
     requires scale { g ≤ 50 }
     requires within { c < f.now.size }
-    requires room { IsRoom f.now.size u.old x.old words.old }
-    ensures column { OnTrue result (HasColumn f.now.size (square_at f.now) g words.new c) }
-    ensures others { KeepsColumns f.now.size c words.old words.new }
-    ensures small { AllAtMost (2 ^ 50) words.new }
+    requires room { IsRoom f.now.size u.old x.old r.old }
+    ensures column { OnTrue result (HasColumn f.now.size (square_at f.now) g r.new c) }
+    ensures size { r.new.size ≡ f.now.size }
+    ensures others { KeepsColumns f.now.size c r.old r.new }
+    ensures small { AllAtMost (2 ^ 50) r.new.numbers }
     ensures none { OnFalse result ((y : ℕ → ℤ) → ¬ (IsInverseColumn f.now.size (square_at f.now) g c y)) }
 {
     if !column(f, t, g, c, u, x) {
         return false;
     }
     round(x);
-    write_column(words, c, x);
+    set_column(r, c, x);
     true
 }
 
-/// Writes all columns at the scale `g` into the words, and answers the first that fails its bounds.
+/// Writes all columns at the scale `g` into `r`, and answers the first that fails its bounds.
 fn place_columns(
     f: &Factor,
-    t: &[i64],
+    t: &Square,
     g: u32,
     u: &mut [i128],
     x: &mut [i64],
-    words: &mut [i64],
+    r: &mut Square,
 ) -> Option<usize>
     requires transposed { IsTransposed f.now.size (square_at f.now) t.now }
     requires scale { g ≤ 50 }
-    requires room { IsRoom f.now.size u.old x.old words.old }
-    ensures columns { IfNone result (PlacesColumns f.now.size (square_at f.now) g words.new f.now.size) }
+    requires room { IsRoom f.now.size u.old x.old r.old }
+    ensures columns { IfNone result (PlacesColumns f.now.size (square_at f.now) g r.new f.now.size) }
     ensures first { IfSome result (IsFirstFailing f.now.size (square_at f.now) g) }
-    ensures small { AllAtMost (2 ^ 50) words.new }
+    ensures size { r.new.size ≡ f.now.size }
+    ensures small { AllAtMost (2 ^ 50) r.new.numbers }
 {
     for c in 0..f.size() {
-        if !place_column(f, t, g, c, u, x, words) {
+        if !place_column(f, t, g, c, u, x, r) {
             return Some(c);
         }
     }
     None
 }
 
-/// The greatest scale at which all columns stay in their bounds, with the words of these, or the first column that
+/// The greatest scale at which all columns stay in their bounds, with these in `r`, or the first column that
 /// fails at the least scale.
 pub fn greatest_scale(
     f: &Factor,
-    t: &[i64],
+    t: &Square,
     u: &mut [i128],
     x: &mut [i64],
-    words: &mut [i64],
+    r: &mut Square,
 ) -> Result<u32, usize>
     requires transposed { IsTransposed f.now.size (square_at f.now) t.now }
-    requires room { IsRoom f.now.size u.old x.old words.old }
-    ensures scale { IfOk result (λ g. IsGreatestScale f.now.size (square_at f.now) g words.new) }
-    ensures small { AllAtMost (2 ^ 50) words.new }
+    requires room { IsRoom f.now.size u.old x.old r.old }
+    ensures size { r.new.size ≡ f.now.size }
+    ensures scale { IfOk result (λ g. IsGreatestScale f.now.size (square_at f.now) g r.new) }
+    ensures small { AllAtMost (2 ^ 50) r.new.numbers }
     ensures failure { IfErr result (IsFailure f.now.size (square_at f.now)) }
 {
     let mut g = 50;
     'scales: loop {
-        match place_columns(f, t, g, u, x, words) {
+        match place_columns(f, t, g, u, x, r) {
             None => return Ok(g),
             Some(col) => {
                 if g == 0 {

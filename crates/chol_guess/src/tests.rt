@@ -30,7 +30,7 @@ fn put<const N: usize>(a: &mut SymBlock<N>, i: usize, j: usize, v: i128)
     a.set(i, j, Iv::point(cut(v)));
 }
 
-// The table of one or two rows with this diagonal and this word below it.
+// The table of one or two rows with this diagonal and this number below it.
 fn table<const N: usize>(
     alloc: Global,
     first: i128,
@@ -56,7 +56,7 @@ fn table<const N: usize>(
     }
 }
 
-// The working table with those words, a right side of zeros and exponents of 0.
+// The working table with those intervals, a right side of zeros and exponents of 0.
 fn working<const N: usize>(alloc: Global, a: SymBlock<N>) -> Result<Working<N>, AllocError>
     requires few { a.size ≤ 2 }
     requires small { (k l : ℕ) → k < a.size → l < a.size → size (word a k l) ≤ 2 ^ 61 }
@@ -67,7 +67,7 @@ fn working<const N: usize>(alloc: Global, a: SymBlock<N>) -> Result<Working<N>, 
     Ok(Working { a, d, e })
 }
 
-// The scale and the first word of the pilot.
+// The scale and the first number of the pilot.
 fn answer<const N: usize, R: Threads + Sync>(
     rt: &R,
     alloc: Global,
@@ -85,7 +85,7 @@ fn answer<const N: usize, R: Threads + Sync>(
     Ok((p.g(), word))
 }
 
-// The last word is a third of 2^42, and the one before it 2^110 over 1024 * 4 * 10^16.
+// The last number is a third of 2^42, and the one before it 2^110 over 1024 * 4 * 10^16.
 fn answers<const N: usize, R: Threads + Sync + Abort + AllocGlobal>(rt: &R) {
     let one = 1 << 60;
     for (first, below, second, wanted) in [

@@ -8,6 +8,6 @@ use Rattle.decimal_e.specs.Decimals.{Decimal}
 abbrev pub decimal_interval : Decimal → ℤ → Interval
 decimal_interval d k = record { lo = floor_scaled d.mant (d.exp +ℤ k); hi = ceil_scaled d.mant (d.exp +ℤ k) }
 
--- the word holds the exact value: mant * 10^(exp + k) as a fraction
+-- the interval holds the exact value: mant * 10^(exp + k) as a fraction
 abbrev pub HoldsValue : Type 0
 HoldsValue = (d : Decimal) (k : ℤ) → Holds (decimal_interval d k) (d.mant *ℤ pos (ten_above (d.exp +ℤ k))) (ten_below (d.exp +ℤ k))

@@ -8,16 +8,16 @@ use Rattle.stated_order.proofs.FirstLaws.{neither_less, least_is_one}
 use Rattle.whole_numbers.proofs.ListLaws.{equal_lists}
 use Rattle.sys_model.specs.Systems.{Table, rho}
 use Rattle.enclosures.specs.Pilots.{PilotTable}
-use Rattle.enclosure_check.specs.Certificates.{LeftFitsAfter, parts_of, error_of, IsCertified, IsResidual, IsDefect}
+use Rattle.enclosure_check.specs.Certificates.{ResidualFitsAfter, parts_of, error_of, IsCertified, IsResidual, IsDefect}
 use Rattle.enclosures.specs.declared.Radius.{Radius}
 use Rattle.enclosure_check.proofs.CertificateLaws.{le-greatest_to}
 
 module _ (n : ℕ) (t : Table) (p : PilotTable) (y : ℕ → ℤ) where
   -- two least shifts leave equal errors
-  errors_alone : (h k : ℕ) → IsLeast (LeftFitsAfter n t y) h → IsLeast (LeftFitsAfter n t y) k → error_of n t p y h ≡ error_of n t p y k
-  errors_alone h k a b = ap (error_of n t p y) (least_is_one (LeftFitsAfter n t y) h k a b)
+  errors_alone : (h k : ℕ) → IsLeast (ResidualFitsAfter n t y) h → IsLeast (ResidualFitsAfter n t y) k → error_of n t p y h ≡ error_of n t p y k
+  errors_alone h k a b = ap (error_of n t p y) (least_is_one (ResidualFitsAfter n t y) h k a b)
 
-  error_alone : (h k i : ℕ) → IsLeast (LeftFitsAfter n t y) h → IsLeast (LeftFitsAfter n t y) k → error_of n t p y h i ≡ error_of n t p y k i
+  error_alone : (h k i : ℕ) → IsLeast (ResidualFitsAfter n t y) h → IsLeast (ResidualFitsAfter n t y) k → error_of n t p y h i ≡ error_of n t p y k i
   error_alone h k i a b = ap (λ f. f i) (errors_alone h k a b)
 
   -- ---- one certificate

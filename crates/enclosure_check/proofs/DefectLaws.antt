@@ -22,13 +22,13 @@ use Rattle.enclosure_check.specs.Certificates.{parts_of}
 use Rattle.enclosure_check.specs.Defects.{word_between, products_to, clipped_left, turned_table, AreRows, HasWords}
 use Rattle.enclosure_check.proofs.ErrorLaws.{step_fits}
 
--- the numbers and the words below n are in their bounds
+-- the numbers and the intervals below n are in their bounds
 pub record InBounds (n : ℕ) (r : ℕ → ℤ) (f : ℕ → Interval) : Type 0 where
   pub few : n ≤ 1000
   pub numbers : (k : ℕ) → k < n → unsigned_abs (r k) ≤ 2 ^ 50
   pub words : (k : ℕ) → k < n → size (f k) ≤ 2 ^ 61
 
--- a sum of products of such numbers and words
+-- a sum of products of such numbers and intervals
 pub size_products : (n m : ℕ) (r : ℕ → ℤ) (f : ℕ → Interval) → InBounds n r f → m ≤ n → size (products_to m r f) ≤ 2 ^ 121
 size_products n m r f b part =
     let s = size_sum_by m (λ k. interval_scale (r k) (f k)) in
@@ -68,7 +68,7 @@ total_small m g i f few =
     let u = mul-le-mul_right (2 ^ (g + 60)) few in
     omega (arith, t, u)
 
--- the table's words are in their bounds
+-- the table's intervals are in their bounds
 pub column_in_bounds : (n : ℕ) (a : SymTable) (r : List ℤ) (j : ℕ) → n ≤ 1000 → length r ≡ n → AllAtMost (2 ^ 50) r → ((k l : ℕ) → k < n → l < n → size (word a k l) ≤ 2 ^ 61) → j < n → InBounds n (at r) (λ k. word a k j)
 column_in_bounds n a r j few len numbers words column = record { few = few; numbers = λ k l. numbers k (omega arith); words = λ k l. words k j l column }
 
@@ -91,11 +91,11 @@ row_parts_is n m g i r p t total parts whole scale sum up words =
     let a : parts ≡ row_parts n g (λ i. at r) t i = up ∙ ap (λ x. up_over x (2 ^ (g + 30))) (sum ∙ ap (λ x. total_to x c) whole) in
     a ∙ row_parts_same n g i (λ i. at r) (pilot_word p) t t words (λ k j l h. refl) ∙ ap (λ x. row_parts n x (pilot_word p) t i) scale
 
--- ---- the ends of a table's words, row by row
+-- ---- the ends of a table's intervals, row by row
 abbrev pub StandAt : ℕ → SymTable → List ℤ → List ℤ → ℕ → Type 0
 StandAt n a low high m = (x : ℕ) → x < m → word_between low high x ≡ word a (x / n) (x % n)
 
--- one more word at the ends of the lists
+-- one more interval at the ends of the lists
 pub ends_push : (n m : ℕ) (a : SymTable) (low high : List ℤ) (lo hi : ℤ) → length low ≡ m → length high ≡ m → lo ≡ (word a (m / n) (m % n)).lo → hi ≡ (word a (m / n) (m % n)).hi → StandAt n a low high m → StandAt n a (low ++ lo ∷ []) (high ++ hi ∷ []) (m + 1)
 ends_push n m a low high lo hi l h e d before =
     below_more _ _

@@ -1,4 +1,4 @@
--- How large the words are that a vector leaves of the right side, and those that the pilot makes of them.
+-- How large the intervals are that a vector leaves of the right side, and those that the pilot makes of them.
 use Rattle.std.proofs.Common.{◌≡◌, ℕ, ℤ, ◌+ℤ◌, ◌+◌, ◌-◌, ◌*◌, ◌≤◌, ◌<◌, ◌^◌, unsigned_abs, FitsSigned, arith, add-one, List, length, ap, refl, sym, subst, ◌∙◌}
 use Rattle.std.specs.Int.{w128}
 use Rattle.std.proofs.Math.Decide.{dec_lt}
@@ -12,25 +12,25 @@ use Rattle.sym_blocks.specs.Tables.{SymTable, word}
 use Rattle.whole_numbers.specs.Lists.{at}
 use Rattle.sys_model.specs.Systems.{Table, residual_interval}
 use Rattle.enclosures.specs.Pilots.{PilotTable, pilot_word}
-use Rattle.enclosure_check.specs.Certificates.{AreErrors, LeftFitsAfter}
+use Rattle.enclosure_check.specs.Certificates.{AreErrors, ResidualFitsAfter}
 use Rattle.enclosure_check.specs.ErrorParts.{IsVector, IsRowByWords, AreResiduals, AreShifted, AreShiftedResiduals, AreShiftedErrors, FitAfter, taken_interval, part_interval, shifted_error, word_at}
 use Rattle.stated_order.specs.First.{IsLeast}
 
--- ---- sums of words
+-- ---- sums of intervals
 ends_fit : (w : Interval) → size w ≤ 2 ^ 126 → FitsSigned w128 w.lo × FitsSigned w128 w.hi
 ends_fit w h = (fits_signed_from_abs w128 w.lo (omega arith), fits_signed_from_abs w128 w.hi (omega arith))
 
 sum_intervals_more : (k : ℕ) (f : ℕ → Interval) → sum_intervals (k + 1) f ≡ interval_add (sum_intervals k f) (f k)
 sum_intervals_more k f = rw add-one refl
 
--- a sum with one more word fits
+-- a sum with one more interval fits
 pub step_fits : (k : ℕ) (f : ℕ → Interval) (w v : Interval) → w ≡ sum_intervals k f → v ≡ f k → size (sum_intervals (k + 1) f) ≤ 2 ^ 126 → FitsSigned w128 (w.lo +ℤ v.lo) × FitsSigned w128 (w.hi +ℤ v.hi)
 step_fits k f w v e d h =
     let t : sum_intervals (k + 1) f ≡ interval_add w v = sum_intervals_more k f ∙ sym (rw (e, d) refl) in
     ends_fit (interval_add w v) (omega (arith, h, ap (λ u. size u) t))
 
 -- ---- what the vector takes of a row
--- the words of a working table
+-- the intervals of a working table
 abbrev pub AreSmallIntervals : SymTable → Type 0
 AreSmallIntervals a = (i j : ℕ) → i < a.size → j < a.size → size (word a i j) ≤ 2 ^ 61
 
@@ -49,7 +49,7 @@ row_small a y i m small v row most =
     let e = total_part a.size (λ k. unsigned_abs (at y k)) m most in
     omega (arith, s, b, c, e, v.small)
 
--- ---- what the pilot makes of the words
+-- ---- what the pilot makes of the intervals
 -- each product fits
 pub part_small : (r : List ℤ) (ws : List Interval) (k : ℕ) → IsRowByWords r ws → k < length ws → unsigned_abs (at r k) * size (word_at ws k) ≤ 2 ^ 126
 part_small r ws k s h =
@@ -83,7 +83,7 @@ least_to P m k most before here last = record {
   before = before;
 }
 
--- the pilot may be multiplied with the shifted words
+-- the pilot may be multiplied with the shifted intervals
 pub left_shifted : (n : ℕ) (t : Table) (y : ℕ → ℤ) (ws vs : List Interval) (h : ℕ) → n ≤ 1000 → AreResiduals n t y ws → IsLeast (FitAfter ws) h → AreShifted h ws vs → AreShiftedResiduals n vs
 left_shifted n t y ws vs h few left least shifted = record {
   len = omega (arith, left.len, shifted.len);
@@ -92,19 +92,19 @@ left_shifted n t y ws vs h few left least shifted = record {
 }
 
 -- what fits of the list fits of the definition, and the other way round
-fits_left : (n : ℕ) (t : Table) (y : ℕ → ℤ) (ws : List Interval) → AreResiduals n t y ws → (h : ℕ) → FitAfter ws h → LeftFitsAfter n t y h
+fits_left : (n : ℕ) (t : Table) (y : ℕ → ℤ) (ws : List Interval) → AreResiduals n t y ws → (h : ℕ) → FitAfter ws h → ResidualFitsAfter n t y h
 fits_left n t y ws left h fits i row = subst (λ w. size (interval_shift h w) ≤ 2 ^ 66) (left.each i row) (fits i (omega (arith, left.len)))
 
-fits_back : (n : ℕ) (t : Table) (y : ℕ → ℤ) (ws : List Interval) → AreResiduals n t y ws → (h : ℕ) → LeftFitsAfter n t y h → FitAfter ws h
+fits_back : (n : ℕ) (t : Table) (y : ℕ → ℤ) (ws : List Interval) → AreResiduals n t y ws → (h : ℕ) → ResidualFitsAfter n t y h → FitAfter ws h
 fits_back n t y ws left h fits k inside = let row : k < n = omega (arith, left.len) in subst (λ w. size (interval_shift h w) ≤ 2 ^ 66) (sym (left.each k row)) (fits k row)
 
--- the errors of the shifted words are those of the definition
+-- the errors of the shifted intervals are those of the definition
 pub errors_are : (n : ℕ) (t : Table) (y : ℕ → ℤ) (p : PilotTable) (ws vs : List Interval) (h : ℕ) → p.size ≡ n → h ≤ 60 → AreResiduals n t y ws → IsLeast (FitAfter ws) h → AreShifted h ws vs
     → (errors : List ℕ) → AreShiftedErrors p vs h errors → AreErrors n t p y errors
 errors_are n t y p ws vs h size_is few left least shifted errors are = record {
   h = h;
   few = few;
-  shift = least_same (FitAfter ws) (LeftFitsAfter n t y) h (fits_left n t y ws left) (fits_back n t y ws left) least;
+  shift = least_same (FitAfter ws) (ResidualFitsAfter n t y) h (fits_left n t y ws left) (fits_back n t y ws left) least;
   len = omega (arith, are.len);
   each = λ i row.
       let same = sum_intervals_same n (λ k. interval_scale (pilot_word p i k) (word_at vs k)) (λ k. interval_scale (pilot_word p i k) (interval_shift h (residual_interval n t y k)))

@@ -1,4 +1,4 @@
--- How large the numbers of a turn are, and where turns lead.
+-- How large the numbers of a refinement are, and where refinements lead.
 use Rattle.std.proofs.Common.{◌≡◌, ◌≤◌, ◌<◌, ◌+◌, ◌-◌, ◌*◌, ◌^◌, ◌∙◌, ℕ, suc, ℤ, pos, ◌+ℤ◌, ◌*ℤ◌, unsigned_abs, FitsSigned, List, length, replicate, add-one, refl, sym, ap, subst, arith}
 use Rattle.std.specs.Int.{w128}
 use Rattle.std.proofs.lemmas.Int.{ints, fits_signed_from_abs, unsigned_abs-mul}
@@ -18,12 +18,12 @@ use Rattle.enclosure_check.specs.ErrorParts.{IsVector}
 use Rattle.enclosure_check.specs.VectorParts.{taken_midpoint, part_number, correction_at, corrected_at, AreMidpointResiduals, AreFloors, IsRowByNumbers, AreShiftedNumbers, AreSmallNumbers, IsPassed, IsRefined, IsRefinementRefused}
 use Rattle.enclosure_check.specs.declared.VectorError.{VectorError}
 use Rattle.enclosure_check.specs.declared.VectorError.TheVariants.{Range, Memory}
-use Rattle.enclosure_check.specs.Vectors.{IsTurn, AfterTurns, IsStartVector, AllFitAfter, midpoint_residual, moved}
+use Rattle.enclosure_check.specs.Vectors.{IsRefinement, AfterRefinements, IsStartVector, AllFitAfter, midpoint_residual, corrected}
 use Rattle.enclosures.specs.Vectors.{IsSmall}
 use Rattle.enclosure_check.proofs.ErrorLaws.{AreSmallIntervals, least_same}
 use Rattle.stated_order.specs.First.{IsLeast}
 
--- the middle is no greater than the word
+-- the middle is no greater than the interval
 pub middle_small : (w : Interval) (m : ℕ) → size w ≤ m → unsigned_abs (midpoint w) ≤ m
 middle_small w m h = floor_small (w.lo +ℤ w.hi) 2 m (omega arith) (omega (arith, ints))
 
@@ -78,12 +78,12 @@ change_is p r vs h i g b v len row is scale floor =
     let sum = is ∙ ap (λ n. sum_to n (part_number r vs)) len ∙ same in
     floor ∙ ap (λ x. floor_over x (2 ^ (g + 60 - h))) sum ∙ ap (λ s. floor_over (sum_to p.size (λ k. pilot_word p i k *ℤ at vs k)) (2 ^ (s + 60 - h))) scale
 
--- ---- one turn
+-- ---- one refinement
 -- small numbers stay small where they are the same
 small_same : (n : ℕ) (f g : ℕ → ℤ) → ((k : ℕ) → k < n → f k ≡ g k) → IsSmall n f → IsSmall n g
 small_same n f g h s = omega (arith, s, total_to_same n (λ k. unsigned_abs (f k)) (λ k. unsigned_abs (g k)) (λ k l. ap unsigned_abs (h k l)))
 
--- what the rows of a turn are made of
+-- what the rows of a refinement are made of
 pub record IsMade (n : ℕ) (t : Table) (p : PilotTable) (y : List ℤ) (qs vs : List ℤ) (h : ℕ) : Type 0 where
   pub size : p.size ≡ n
   pub left : AreMidpointResiduals n t (at y) qs
@@ -98,9 +98,9 @@ made_numbers n t p y qs vs h few m = record {
   small = λ k l. let inside : k < length qs = omega (arith, m.floors.len) in rw (m.floors.each k inside) (m.least.here k inside);
 }
 
--- a number made of the lists is that of the turn
-moved_same : (n : ℕ) (t : Table) (p : PilotTable) (y qs vs : List ℤ) (h : ℕ) → IsMade n t p y qs vs h → (i : ℕ) → corrected_at p y vs h i ≡ moved n p (midpoint_residual n t (at y)) h (at y) i
-moved_same n t p y qs vs h m i =
+-- a number made of the lists is that of the refinement
+corrected_same : (n : ℕ) (t : Table) (p : PilotTable) (y qs vs : List ℤ) (h : ℕ) → IsMade n t p y qs vs h → (i : ℕ) → corrected_at p y vs h i ≡ corrected n p (midpoint_residual n t (at y)) h (at y) i
+corrected_same n t p y qs vs h m i =
     let same = sum_to_same n (λ k. pilot_word p i k *ℤ at vs k) (λ k. pilot_word p i k *ℤ floor_over (midpoint_residual n t (at y) k) (2 ^ h))
     (λ k l. ap (λ x. pilot_word p i k *ℤ x) (m.floors.each k (omega (arith, m.left.len)) ∙ ap (λ x. floor_over x (2 ^ h)) (m.left.each k l))) in
     ap (λ s. at y i +ℤ floor_over (sum_to s (λ k. pilot_word p i k *ℤ at vs k)) (2 ^ (p.g + 60 - h))) m.size ∙ ap (λ x. at y i +ℤ floor_over x (2 ^ (p.g + 60 - h))) same
@@ -112,35 +112,35 @@ fits_left n t y qs left h fits i row = subst (λ q. unsigned_abs (floor_over q (
 fits_back : (n : ℕ) (t : Table) (y : ℕ → ℤ) (qs : List ℤ) → AreMidpointResiduals n t y qs → (h : ℕ) → AllFitAfter n (midpoint_residual n t y) h → AllFitAfter (length qs) (at qs) h
 fits_back n t y qs left h fits k inside = let row : k < n = omega (arith, left.len) in subst (λ q. unsigned_abs (floor_over q (2 ^ h)) ≤ 2 ^ 66) (sym (left.each k row)) (fits k row)
 
--- numbers that are those that the pilot gives are one turn away
-made_turn : (n : ℕ) (t : Table) (p : PilotTable) (y qs vs : List ℤ) (h : ℕ) → IsMade n t p y qs vs h → (z : ℕ → ℤ) → ((i : ℕ) → i < n → z i ≡ corrected_at p y vs h i) → IsTurn n t p (at y) z
-made_turn n t p y qs vs h m z is = record {
+-- numbers that are those that the pilot gives are one refinement away
+made_refinement : (n : ℕ) (t : Table) (p : PilotTable) (y qs vs : List ℤ) (h : ℕ) → IsMade n t p y qs vs h → (z : ℕ → ℤ) → ((i : ℕ) → i < n → z i ≡ corrected_at p y vs h i) → IsRefinement n t p (at y) z
+made_refinement n t p y qs vs h m z is = record {
   h = h;
   shift = least_same (AllFitAfter (length qs) (at qs)) (AllFitAfter n (midpoint_residual n t (at y))) h (fits_left n t (at y) qs m.left) (fits_back n t (at y) qs m.left) m.least;
-  rows = λ i row. is i row ∙ moved_same n t p y qs vs h m i;
+  rows = λ i row. is i row ∙ corrected_same n t p y qs vs h m i;
 }
 
--- their sizes are as small as those of the turn
+-- their sizes are as small as those of the refinement
 made_vector : (n : ℕ) (t : Table) (p : PilotTable) (y qs vs : List ℤ) (h : ℕ) → IsMade n t p y qs vs h → (zs : List ℤ) → AreSmallNumbers p.size (corrected_at p y vs h) zs → IsVector n zs
 made_vector n t p y qs vs h m zs are =
     let whole : IsVector p.size zs = record { len = are.len; small = small_same p.size (corrected_at p y vs h) (at zs) (λ k l. sym (are.each k l)) are.small } in
     subst (λ s. IsVector s zs) m.size whole
 
--- what `moved` answers is what `turn` answers
-pub made_turned : (n : ℕ) (t : Table) (p : PilotTable) (y qs vs : List ℤ) (h : ℕ) → IsMade n t p y qs vs h → (zs : List ℤ) → AreSmallNumbers p.size (corrected_at p y vs h) zs → IsRefined n t p (at y) zs
-made_turned n t p y qs vs h m zs are = record {
+-- what the calls answer is one refinement
+pub made_refined : (n : ℕ) (t : Table) (p : PilotTable) (y qs vs : List ℤ) (h : ℕ) → IsMade n t p y qs vs h → (zs : List ℤ) → AreSmallNumbers p.size (corrected_at p y vs h) zs → IsRefined n t p (at y) zs
+made_refined n t p y qs vs h m zs are = record {
   vector = made_vector n t p y qs vs h m zs are;
-  turn = made_turn n t p y qs vs h m (at zs) (λ i row. are.each i (omega (arith, m.size)));
+  refinement = made_refinement n t p y qs vs h m (at zs) (λ i row. are.each i (omega (arith, m.size)));
 }
 
 pub made_refused : (n : ℕ) (t : Table) (p : PilotTable) (y qs vs : List ℤ) (h : ℕ) → IsMade n t p y qs vs h → (e : VectorError) → IsPassed p.size (corrected_at p y vs h) e → IsRefinementRefused n t p (at y) e
 made_refused n t p y qs vs h m (Range row) passed =
     let z = corrected_at p y vs h in
-    (z, (made_turn n t p y qs vs h m z (λ i l. refl), record { within = omega (arith, m.size, passed.within); before = passed.before; past = passed.past }))
+    (z, (made_refinement n t p y qs vs h m z (λ i l. refl), record { within = omega (arith, m.size, passed.within); before = passed.before; past = passed.past }))
 made_refused n t p y qs vs h m Memory passed = passed
 
--- ---- several turns
--- the zeros are a vector to which no turns lead
+-- ---- several refinements
+-- the zeros are a vector to which no refinements lead
 zeros_each : (n : ℕ) (ys : List ℤ) → ys ≡ replicate n (pos 0) → (k : ℕ) → k < n → at ys k ≡ pos 0
 zeros_each n ys e k h = rw e (get_or-replicate n k (pos 0) (pos 0) h)
 
@@ -149,30 +149,30 @@ zeros_small n ys e =
     let t = total_to-bound n (λ k. unsigned_abs (at ys k)) 0 (λ k l. omega (arith, ap unsigned_abs (zeros_each n ys e k l))) in
     record { len = rw e (length-replicate n (pos 0)); small = omega (arith, t) }
 
--- a vector to which this many turns lead
+-- a vector to which this many refinements lead
 pub record IsVectorAfter (n : ℕ) (t : Table) (p : PilotTable) (k : ℕ) (ys : List ℤ) : Type 0 where
   pub vector : IsVector n ys
-  pub turns : AfterTurns n t p k (at ys)
+  pub refinements : AfterRefinements n t p k (at ys)
 
 pub zeros_after : (n : ℕ) (t : Table) (p : PilotTable) (ys : List ℤ) → ys ≡ replicate n (pos 0) → IsVectorAfter n t p 0 ys
-zeros_after n t p ys e = record { vector = zeros_small n ys e; turns = zeros_each n ys e }
+zeros_after n t p ys e = record { vector = zeros_small n ys e; refinements = zeros_each n ys e }
 
--- one turn more
-pub turned_after : (n : ℕ) (t : Table) (p : PilotTable) (k : ℕ) (ys zs : List ℤ) → IsVectorAfter n t p k ys → IsRefined n t p (at ys) zs → IsVectorAfter n t p (k + 1) zs
-turned_after n t p k ys zs v turned = rw add-one (record { vector = turned.vector; turns = (at ys, (v.turns, (v.vector.small, turned.turn))) })
+-- one refinement more
+pub refined_after : (n : ℕ) (t : Table) (p : PilotTable) (k : ℕ) (ys zs : List ℤ) → IsVectorAfter n t p k ys → IsRefined n t p (at ys) zs → IsVectorAfter n t p (k + 1) zs
+refined_after n t p k ys zs v refined = rw add-one (record { vector = refined.vector; refinements = (at ys, (v.refinements, (v.vector.small, refined.refinement))) })
 
--- after three turns it is the start vector
+-- after three refinements it is the start vector
 pub start_after : (n : ℕ) (t : Table) (p : PilotTable) (k : ℕ) (ys : List ℤ) → k ≡ 3 → IsVectorAfter n t p k ys → IsStartVector n t p (at ys)
-start_after n t p k ys e v = record { turns = subst (λ m. AfterTurns n t p m (at ys)) e v.turns; small = v.vector.small }
+start_after n t p k ys e v = record { refinements = subst (λ m. AfterRefinements n t p m (at ys)) e v.refinements; small = v.vector.small }
 
--- a refusal of the next turn is one of the start vector
+-- a refusal of the next refinement is one of the start vector
 pub refused_after : (n : ℕ) (t : Table) (p : PilotTable) (k : ℕ) (ys : List ℤ) → k < 3 → IsVectorAfter n t p k ys → (e : VectorError) → IsRefinementRefused n t p (at ys) e → IsVectorRefused n t p e
 refused_after n t p k ys few v (Range row) r = record {
-  turn = suc k;
+  refinement = suc k;
   some = omega arith;
   few = few;
   z = r.0;
-  turns = (at ys, (v.turns, (v.vector.small, r.1.0)));
+  refinements = (at ys, (v.refinements, (v.vector.small, r.1.0)));
   within = r.1.1.within;
   before = r.1.1.before;
   past = r.1.1.past;

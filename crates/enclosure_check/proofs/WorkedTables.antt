@@ -6,7 +6,7 @@ use Rattle.whole_numbers.specs.Intervals.{point_interval}
 use Rattle.whole_numbers.proofs.IntervalLaws.{two_pow_above}
 use Rattle.sys_model.specs.Systems.{Table, radius}
 use Rattle.enclosures.specs.Pilots.{PilotTable, pilot_word}
-use Rattle.enclosure_check.specs.Certificates.{LeftFitsAfter, parts_of, error_of}
+use Rattle.enclosure_check.specs.Certificates.{ResidualFitsAfter, parts_of, error_of}
 use Rattle.stated_order.specs.First.{IsLeast}
 
 abbrev table : ℤ → ℤ → Table
@@ -25,7 +25,7 @@ radius_at r a d h b m = radius 1 0 h (pilot_word (pilot r)) (table a d) zeros b 
 pub parts_1 : parts_of 1 (table (pos 1) (pos 0)) (pilot (pos 1073741824)) 0 ≡ 1073741823
 parts_1 = refl
 
-pub shift_1 : IsLeast (LeftFitsAfter 1 (table (pos 1) (pos 0)) zeros) 0
+pub shift_1 : IsLeast (ResidualFitsAfter 1 (table (pos 1) (pos 0)) zeros) 0
 shift_1 = record { here = λ i l. lit≤ tt; before = λ k l. absurd (omega arith) }
 
 pub error_1 : error_of 1 (table (pos 1) (pos 0)) (pilot (pos 1073741824)) zeros 0 0 ≡ 0
@@ -37,7 +37,7 @@ radius_1 = refl
 pub parts_2 : parts_of 1 (table (pos 1) (pos 1)) (pilot (pos 1073741824)) 0 ≡ 1073741823
 parts_2 = refl
 
-pub shift_2 : IsLeast (LeftFitsAfter 1 (table (pos 1) (pos 1)) zeros) 0
+pub shift_2 : IsLeast (ResidualFitsAfter 1 (table (pos 1) (pos 1)) zeros) 0
 shift_2 = record { here = λ i l. lit≤ tt; before = λ k l. absurd (omega arith) }
 
 pub error_2 : error_of 1 (table (pos 1) (pos 1)) (pilot (pos 1073741824)) zeros 0 0 ≡ 1
@@ -62,7 +62,7 @@ too_large a b k m h l q =
     let t = mul-le-mul_right (2 ^ k) q in
     omega (arith, lt-div-mul-add {a = a} (two_pow_above k), s, t)
 
-pub shift_4 : IsLeast (LeftFitsAfter 1 (table (pos (2 ^ 56)) (pos (2 ^ 122))) zeros) 56
+pub shift_4 : IsLeast (ResidualFitsAfter 1 (table (pos (2 ^ 56)) (pos (2 ^ 122))) zeros) 56
 shift_4 = record {
   here = λ i l. lit≤ tt;
   before = λ k l fits. too_large (2 ^ 122) (2 ^ 66) k 55 (omega arith) (lit≤ tt) (omega (arith, fits 0 (omega arith)));
@@ -75,7 +75,7 @@ pub radius_4 : radius_at (pos 16) (pos (2 ^ 56)) (pos (2 ^ 122)) 56 0 (2 ^ 66) �
 radius_4 = refl
 
 -- ---- and 2^122 + 1, which wants one shift more
-pub shift_5 : IsLeast (LeftFitsAfter 1 (table (pos (2 ^ 56)) (pos (2 ^ 122 + 1))) zeros) 57
+pub shift_5 : IsLeast (ResidualFitsAfter 1 (table (pos (2 ^ 56)) (pos (2 ^ 122 + 1))) zeros) 57
 shift_5 = record {
   here = λ i l. lit≤ tt;
   before = λ k l fits. too_large (2 ^ 122) (2 ^ 66 - 1) k 56 (omega arith) (lit≤ tt) (omega (arith, fits 0 (omega arith)));

@@ -11,11 +11,11 @@ abbrev pub end_product : ℤ → ℤ → ℤ → ℤ
 end_product (pos k) up down = pos k *ℤ up
 end_product (negsuc k) up down = negsuc k *ℤ down
 
--- the word from number k of low to number k of high
+-- the interval from number k of low to number k of high
 abbrev pub word_between : List ℤ → List ℤ → ℕ → Interval
 word_between low high k = record { lo = at low k; hi = at high k }
 
--- the sum of the first n products of the numbers r and the words f
+-- the sum of the first n products of the numbers r and the intervals f
 abbrev pub products_to : ℕ → (ℕ → ℤ) → (ℕ → Interval) → Interval
 products_to n r f = sum_intervals n (λ k. interval_scale (r k) (f k))
 
@@ -28,14 +28,14 @@ pub record AreRows (r low high : List ℤ) : Type 0 where
   pub low_ends : AllAtMost (2 ^ 61) low
   pub high_ends : AllAtMost (2 ^ 61) high
 
--- the size of what w leaves of the diagonal word at (i, j), and 2^(g + 60) where it is more
+-- the size of what w leaves of the diagonal interval at (i, j), and 2^(g + 60) where it is more
 abbrev pub clipped_left : ℕ → ℕ → ℕ → Interval → ℕ
 clipped_left g i j w = min (size (interval_sub (point_interval (unit i (pos (2 ^ (g + 60))) j)) w)) (2 ^ (g + 60))
 
--- the table whose word in row k and column j has its ends in row j of low and high
+-- the table whose interval in row k and column j has its ends in row j of low and high
 abbrev pub turned_table : ℕ → List ℤ → List ℤ → Table
 turned_table n low high = record { entry = λ k j. word_between low high (j * n + k); right = λ i. zero_interval }
 
--- low and high have the ends of the words of a, row by row
+-- low and high have the ends of the intervals of a, row by row
 abbrev pub HasWords : ℕ → SymTable → List ℤ → List ℤ → Type 0
 HasWords n a low high = (j k : ℕ) → j < n → k < n → word_between low high (j * n + k) ≡ word a j k

@@ -8,7 +8,7 @@ use Rattle.whole_numbers.specs.Lists.{at, AllAtMost}
 use Rattle.enclosures.specs.Pilots.{PilotTable, pilot_word}
 use Rattle.enclosures.specs.Vectors.{IsSmall}
 
--- the word at k of a list
+-- the interval at k of a list
 abbrev pub word_at : List Interval → ℕ → Interval
 word_at ws k = slice_index_or ws k zero_interval
 
@@ -17,47 +17,47 @@ pub record IsVector (n : ℕ) (y : List ℤ) : Type 0 where
   pub len : length y ≡ n
   pub small : IsSmall n (at y)
 
--- the word (i, j) times number j of the vector
+-- the interval (i, j) times number j of the vector
 abbrev pub taken_interval : SymTable → List ℤ → ℕ → ℕ → Interval
 taken_interval a y i j = interval_scale (at y j) (word a i j)
 
--- the words are the residual of y
+-- the intervals are the residual of y
 pub record AreResiduals (n : ℕ) (t : Table) (y : ℕ → ℤ) (ws : List Interval) : Type 0 where
   pub len : length ws ≡ n
   pub each : (i : ℕ) → i < n → word_at ws i ≡ residual_interval n t y i
   pub small : (i : ℕ) → i < n → size (word_at ws i) ≤ 2 ^ 126
 
--- each word of the list is at most 2^66 in size after an outward shift by h
+-- each interval of the list is at most 2^66 in size after an outward shift by h
 abbrev pub FitAfter : List Interval → ℕ → Type 0
 FitAfter ws h = (k : ℕ) → k < length ws → size (interval_shift h (word_at ws k)) ≤ 2 ^ 66
 
--- the words vs are the words ws after an outward shift by h
+-- the intervals vs are the intervals ws after an outward shift by h
 pub record AreShifted (h : ℕ) (ws vs : List Interval) : Type 0 where
   pub len : length vs ≡ length ws
   pub each : (k : ℕ) → k < length ws → word_at vs k ≡ interval_shift h (word_at ws k)
 
--- the product of number k of a row and word k
+-- the product of number k of a row and interval k
 abbrev pub part_interval : List ℤ → List Interval → ℕ → Interval
 part_interval r ws k = interval_scale (at r k) (word_at ws k)
 
--- a row of the pilot and as many words that it may be multiplied with
+-- a row of the pilot and as many intervals that it may be multiplied with
 pub record IsRowByWords (r : List ℤ) (ws : List Interval) : Type 0 where
   pub len : length r ≡ length ws
   pub few : length ws ≤ 1000
   pub row_small : AllAtMost (2 ^ 50) r
   pub words_small : (k : ℕ) → k < length ws → size (word_at ws k) ≤ 2 ^ 66
 
--- n words that the pilot may be multiplied with
+-- n intervals that the pilot may be multiplied with
 pub record AreShiftedResiduals (n : ℕ) (ws : List Interval) : Type 0 where
   pub len : length ws ≡ n
   pub few : n ≤ 1000
   pub small : (k : ℕ) → k < n → size (word_at ws k) ≤ 2 ^ 66
 
--- the error of row i, from words that were shifted by h
+-- the error of row i, from intervals that were shifted by h
 abbrev pub shifted_error : PilotTable → List Interval → ℕ → ℕ → ℕ
 shifted_error p ws h i = up_over (size (sum_intervals p.size (λ k. interval_scale (pilot_word p i k) (word_at ws k)))) (2 ^ (p.g + 60 - h))
 
--- these are the errors of all rows, from words that were shifted by h
+-- these are the errors of all rows, from intervals that were shifted by h
 pub record AreShiftedErrors (p : PilotTable) (ws : List Interval) (h : ℕ) (errors : List ℕ) : Type 0 where
   pub len : length errors ≡ p.size
   pub each : (i : ℕ) → i < p.size → slice_index_or errors i 0 ≡ shifted_error p ws h i

@@ -7,17 +7,17 @@ use Rattle.sys_model.specs.Systems.{Table}
 use Rattle.whole_numbers.specs.Lists.{at, AllAtMost}
 use Rattle.enclosures.specs.Pilots.{PilotTable, pilot_word}
 use Rattle.enclosure_check.specs.ErrorParts.{IsVector}
-use Rattle.enclosure_check.specs.Vectors.{IsTurn, midpoint_residual}
+use Rattle.enclosure_check.specs.Vectors.{IsRefinement, midpoint_residual}
 use Rattle.enclosures.specs.Vectors.{IsSmall}
 use Rattle.enclosure_check.specs.declared.VectorError.{VectorError}
 use Rattle.enclosure_check.specs.declared.VectorError.TheVariants.{Range, Memory}
 use Rattle.whole_numbers.specs.Intervals.{midpoint}
 
--- the midpoint of the word (i, j) times number j of the vector
+-- the midpoint of the interval (i, j) times number j of the vector
 abbrev pub taken_midpoint : SymTable → List ℤ → ℕ → ℕ → ℤ
 taken_midpoint a y i j = midpoint (word a i j) *ℤ at y j
 
--- the numbers are the residual of y, by the midpoints of the words
+-- the numbers are the residual of y, by the midpoints of the intervals
 pub record AreMidpointResiduals (n : ℕ) (t : Table) (y : ℕ → ℤ) (qs : List ℤ) : Type 0 where
   pub len : length qs ≡ n
   pub each : (i : ℕ) → i < n → at qs i ≡ midpoint_residual n t y i
@@ -73,9 +73,9 @@ IsPassed n f Memory = ⊤
 -- the numbers zs are a vector, and one refinement leads to them from y
 pub record IsRefined (n : ℕ) (t : Table) (p : PilotTable) (y : ℕ → ℤ) (zs : List ℤ) : Type 0 where
   pub vector : IsVector n zs
-  pub turn : IsTurn n t p y (at zs)
+  pub refinement : IsRefinement n t p y (at zs)
 
 -- after one refinement from y the numbers pass 2^64 at the row that the refusal names
 abbrev pub IsRefinementRefused : ℕ → Table → PilotTable → (ℕ → ℤ) → VectorError → Type 0
-IsRefinementRefused n t p y (Range row) = (z : ℕ → ℤ) × (IsTurn n t p y z × PassesAt n z row)
+IsRefinementRefused n t p y (Range row) = (z : ℕ → ℤ) × (IsRefinement n t p y z × PassesAt n z row)
 IsRefinementRefused n t p y Memory = ⊤

@@ -9,13 +9,13 @@ use std::test::Fail;
 use std::thread::Threads;
 use sym_blocks::SymBlock;
 
-/// The greatest size of a word of a right side.
+/// The greatest size of an interval of a right side.
 const LIMIT: u128 = 10_000_000_000_000_000_000_000_000_000_000_000_000;
 
 /// The numbers of a certificate, or its refusal.
 type Answer = Result<(u64, u128, Option<u128>), CheckError>;
 
-/// The defect and the certificate of the pilot `r` at the vector 0. The table has the word `a`, and the right side `d`.
+/// The defect and the certificate of the pilot `r` at the vector 0. The table has the interval `a`, and the right side `d`.
 fn one_row<R: Threads + Sync, const N: usize>(
     rt: &R,
     alloc: Global,

@@ -129,7 +129,7 @@ fn certificate_of(alloc: Global, errors: &[u128], defects: &[u64]) -> Result<Rad
 }
 
 /// The numbers of the certificate of these errors and defects, exactly where it passes. Where they are the errors and the
-/// defects of a table, a right side, a pilot and a vector, each system in the words of the table has exactly one solution,
+/// defects of a table, a right side, a pilot and a vector, each system in the intervals of the table has exactly one solution,
 /// and it lies within these radii of the vector.
 ///
 /// Residual comes exactly where an error passes 2^66, with the first such row. Otherwise Defect comes exactly where the
@@ -145,7 +145,7 @@ pub fn certificate(alloc: Global, errors: &[u128], defects: &[u64]) -> Result<Ra
     certificate_of(alloc, errors, defects)
 }
 
-/// The numbers of the certificate at the vector `y`, exactly where it passes. Then each system in the words of the working
+/// The numbers of the certificate at the vector `y`, exactly where it passes. Then each system in the intervals of the working
 /// table has exactly one solution, and it lies within these radii of `y`.
 ///
 /// Residual comes exactly where the error of a row passes 2^66, with the first such row. Otherwise Defect comes exactly

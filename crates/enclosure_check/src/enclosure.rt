@@ -52,7 +52,7 @@ impl From<CheckError> for EncloseError {
 }
 
 /// The pilot of a working table, its start vector and their certificate, or the first refusal of these three. Each system
-/// in the words of the working table has exactly one solution, and it lies within the radii of the start vector.
+/// in the intervals of the working table has exactly one solution, and it lies within the radii of the start vector.
 pub fn enclose<R: Threads + Sync, const N: usize>(
     rt: &R,
     alloc: Global,

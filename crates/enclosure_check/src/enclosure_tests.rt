@@ -10,7 +10,7 @@ use std::test::Fail;
 use std::thread::Threads;
 use sym_blocks::SymBlock;
 
-/// One, in the units of the words.
+/// One, in the units of the table.
 const ONE: i128 = 1_000_000_000_000_000_000;
 
 fn refusal_of(refusal: EquilError) -> EncloseError {

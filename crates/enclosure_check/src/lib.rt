@@ -1,5 +1,5 @@
-//! The certificate of a linear system whose words are intervals: a start vector, the residual test, and with it bounds
-//! between which every solution of every system in the words lies.
+//! The certificate of a linear system that is known by intervals: a start vector, the residual test, and with it bounds
+//! between which every solution of every system in the intervals lies.
 #![tactic(auto)]
 
 use thiserror::Error;

@@ -19,7 +19,7 @@ use std::marker::Model;
 use sym_blocks::SymBlock;
 use whole_numbers::Square;
 
-/// The ends of a word or of a sum of words.
+/// The ends of an interval or of a sum of intervals.
 #[derive(Clone, Copy)]
 struct Ends {
     lo: i128,
@@ -66,7 +66,7 @@ fn end_product(r: i64, up: i64, down: i64) -> i128
     i128::from(r) * i128::from(end)
 }
 
-/// The products of a number and the word from `low` to `high`.
+/// The products of a number and the interval from `low` to `high`.
 fn scaled(r: i64, low: i64, high: i64) -> Ends
     ensures { result ≡ interval_scale r (record { lo = low; hi = high }) }
 {
@@ -76,7 +76,7 @@ fn scaled(r: i64, low: i64, high: i64) -> Ends
     }
 }
 
-/// The sum of the products of the numbers of a row and the words from `low` to `high`.
+/// The sum of the products of the numbers of a row and the intervals from `low` to `high`.
 fn products(r: &[i64], low: &[i64], high: &[i64]) -> Ends
     requires { AreRows r.now low.now high.now }
     ensures value { result ≡ products_to (length r.now) (at r.now) (word_between low.now high.now) }
@@ -116,7 +116,7 @@ fn parts(total: u128, g: u32) -> u64
     total.div_ceil(1 << (g + 30)) as u64
 }
 
-/// The ends of the word of a pair.
+/// The ends of the interval of a pair.
 fn ends_at<const N: usize>(a: &SymBlock<N>, j: usize, k: usize) -> (i64, i64)
     requires words { IsWorkingTable a.now }
     requires row { j < a.now.size }
@@ -128,7 +128,7 @@ fn ends_at<const N: usize>(a: &SymBlock<N>, j: usize, k: usize) -> (i64, i64)
     (word.lo() as i64, word.hi() as i64)
 }
 
-/// The products of a number and the word of a pair.
+/// The products of a number and the interval of a pair.
 fn scaled_at<const N: usize>(a: &SymBlock<N>, r: i64, k: usize, j: usize) -> Ends
     requires words { IsWorkingTable a.now }
     requires row { k < a.now.size }
@@ -139,7 +139,7 @@ fn scaled_at<const N: usize>(a: &SymBlock<N>, r: i64, k: usize, j: usize) -> End
     scaled(r, low, high)
 }
 
-/// The sum of the products of the numbers of a row and the words of column `j`.
+/// The sum of the products of the numbers of a row and the intervals of column `j`.
 fn column_products<const N: usize>(a: &SymBlock<N>, r: &[i64], j: usize) -> Ends
     requires words { IsWorkingTable a.now }
     requires len { length r.now ≡ a.now.size }
@@ -171,7 +171,7 @@ pub fn row_defect<const N: usize>(w: &Working<N>, p: &Pilot, i: usize) -> u64
     parts(total, g)
 }
 
-/// The low and the high ends of the words of a table, row by row.
+/// The low and the high ends of the intervals of a table, row by row.
 #[derive(Drop)]
 struct Squares {
     low: Square,
@@ -183,7 +183,7 @@ struct Squares {
 }
 
 impl Squares {
-    /// The ends of the words of a table. Only memory can be wanting.
+    /// The ends of the intervals of a table. Only memory can be wanting.
     fn of<const N: usize>(alloc: Global, a: &SymBlock<N>) -> Result<Squares, AllocError>
         requires { IsWorkingTable a.now }
         ensures size { IfOk result (λ s. s.low.size ≡ a.now.size) }
@@ -203,7 +203,7 @@ impl Squares {
         })
     }
 
-    /// The sum of the products of the numbers of a row and the words of row `j`.
+    /// The sum of the products of the numbers of a row and the intervals of row `j`.
     fn row_products(&self, r: &[i64], j: usize) -> Ends
         requires len { length r.now ≡ self.now.low.size }
         requires numbers { AllAtMost (2 ^ 50) r.now }

@@ -17,13 +17,13 @@ use std::alloc::{AllocError, Global};
 use sym_blocks::SymBlock;
 use whole_numbers::least_passed;
 
-/// The greatest size of a word that the pilot is multiplied with.
+/// The greatest size of an interval that the pilot is multiplied with.
 const SHIFTED_LIMIT: u128 = 1 << 66;
 
 /// The shift after which any residual is at most that in size.
 pub const MOST_SHIFT: u32 = 60;
 
-/// The word at `k`.
+/// The interval at `k`.
 pub fn word_at(words: &[Iv], k: usize) -> Iv
     requires { k < length words.now }
     ensures { result ≡ word_at words.now k }
@@ -88,7 +88,7 @@ fn residual_intervals<const N: usize>(
     Ok(words)
 }
 
-/// Whether each word is at most 2^66 in size after an outward shift by `h`.
+/// Whether each interval is at most 2^66 in size after an outward shift by `h`.
 fn fit_after(words: &[Iv], h: u32) -> bool
     requires { h ≤ 60 }
     ensures { IsTrue result ↔ FitAfter words.now h }
@@ -101,7 +101,7 @@ fn fit_after(words: &[Iv], h: u32) -> bool
     true
 }
 
-/// The least outward shift after which each word is at most 2^66 in size.
+/// The least outward shift after which each interval is at most 2^66 in size.
 fn least_shift(words: &[Iv]) -> u32
     requires { (k : ℕ) → k < length words.now → size (word_at words.now k) ≤ 2 ^ 126 }
     ensures few { result ≤ 60 }
@@ -110,7 +110,7 @@ fn least_shift(words: &[Iv]) -> u32
     least_passed(MOST_SHIFT, |h| fit_after(words, h))
 }
 
-/// The words after an outward shift by `h`.
+/// The intervals after an outward shift by `h`.
 fn shifted_words(alloc: Global, words: &[Iv], h: u32) -> Result<Vec<Iv>, AllocError>
     requires { h ≤ 60 }
     ensures { IfOk result (λ v. AreShifted h words.now v.items) }
@@ -122,7 +122,7 @@ fn shifted_words(alloc: Global, words: &[Iv], h: u32) -> Result<Vec<Iv>, AllocEr
     Ok(shifted)
 }
 
-/// The product of number `k` of a row of the pilot and word `k`.
+/// The product of number `k` of a row of the pilot and interval `k`.
 fn part_interval(row: &[i64], words: &[Iv], k: usize) -> Iv
     requires sizes { IsRowByWords row.now words.now }
     requires within { k < length words.now }
@@ -131,7 +131,7 @@ fn part_interval(row: &[i64], words: &[Iv], k: usize) -> Iv
     word_at(words, k).mul_small(i128::from(row[k]))
 }
 
-/// What a row of the pilot makes of the words.
+/// What a row of the pilot makes of the intervals.
 fn row_by_words(row: &[i64], words: &[Iv]) -> Iv
     requires { IsRowByWords row.now words.now }
     ensures { result ≡ sum_intervals (length words.now) (part_interval row.now words.now) }
@@ -153,7 +153,7 @@ fn two_to(k: u32) -> u128
     1 << k
 }
 
-/// The error of row `i`: what the pilot makes of the words that were shifted by `h`, rounded up.
+/// The error of row `i`: what the pilot makes of the intervals that were shifted by `h`, rounded up.
 fn row_error(p: &Pilot, words: &[Iv], h: u32, i: usize) -> u128
     requires sizes { AreShiftedResiduals p.now.size words.now }
     requires few { h ≤ 60 }

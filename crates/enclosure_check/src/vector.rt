@@ -44,7 +44,7 @@ impl From<AllocError> for VectorError {
     }
 }
 
-/// What number `j` of the vector takes of row `i`, by the midpoint of the word.
+/// What number `j` of the vector takes of row `i`, by the midpoint of the interval.
 fn taken_midpoint<const N: usize>(w: &Working<N>, y: &[i128], i: usize, j: usize) -> i128
     requires vector { IsVector w.now.a.size y.now }
     requires row { i < w.now.a.size }
@@ -54,7 +54,7 @@ fn taken_midpoint<const N: usize>(w: &Working<N>, y: &[i128], i: usize, j: usize
     product(w.a.get(i, j).mid(), y[j])
 }
 
-/// What the vector takes of row `i`, by the midpoints of the words.
+/// What the vector takes of row `i`, by the midpoints of the intervals.
 fn taken<const N: usize>(w: &Working<N>, y: &[i128], i: usize) -> i128
     requires vector { IsVector w.now.a.size y.now }
     requires row { i < w.now.a.size }
@@ -68,7 +68,7 @@ fn taken<const N: usize>(w: &Working<N>, y: &[i128], i: usize) -> i128
     sum
 }
 
-/// The residual of the vector in row `i`, by the midpoints of the words.
+/// The residual of the vector in row `i`, by the midpoints of the intervals.
 fn midpoint_residual<const N: usize>(w: &Working<N>, y: &[i128], i: usize) -> i128
     requires vector { IsVector w.now.a.size y.now }
     requires row { i < w.now.a.size }

@@ -8,7 +8,7 @@ use std::alloc::Global;
 use std::test::Fail;
 use sym_blocks::SymBlock;
 
-// The working table has one row, with the word 4 * 10^16 and the right side 2 * 10^29, and the pilot is near its
+// The working table has one row, with the interval 4 * 10^16 and the right side 2 * 10^29, and the pilot is near its
 // reciprocal. At the solution, 5 * 10^12, nothing is left.
 fn one_row<const N: usize>(alloc: Global) -> Result<bool, VectorError> {
     let mut table = SymBlock::<N>::zero(alloc, 1)?;

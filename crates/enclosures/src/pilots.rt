@@ -6,10 +6,10 @@ ghost use Rattle.whole_numbers.specs.Lists.{at, AllAtMost};
 
 use std::marker::Model;
 
-/// The greatest size of a word.
+/// The greatest size of a number.
 const LIMIT: u64 = 1 << 50;
 
-/// A pilot: an approximate inverse R of a table, as a square table of words of at most 2^50 in size, in units of
+/// A pilot: an approximate inverse R of a table, as a square table of numbers of at most 2^50 in size, in units of
 /// 2^-(g + 60), where `g` is 0, 10, 20, 30, 40 or 50.
 #[derive(Drop)]
 pub struct Pilot {
@@ -35,7 +35,7 @@ fn is_scale(g: u32) -> bool
     g <= 50 && g % 10 == 0
 }
 
-/// Whether no word passes 2^50 in size.
+/// Whether no number passes 2^50 in size.
 fn are_small(words: &[i64]) -> bool
     ensures { IsTrue result ↔ AllAtMost (2 ^ 50) words.now }
 {
@@ -48,7 +48,7 @@ fn are_small(words: &[i64]) -> bool
 }
 
 impl Pilot {
-    /// The pilot with these words, row by row. `from_words` tests what is required here.
+    /// The pilot with these numbers, row by row. `from_words` tests what is required here.
     pub fn new(g: u32, size: usize, words: Vec<i64>) -> Pilot
         requires { IsPilotTable (record { g = g; size = size; words = words.items }) }
         ensures { result ≡ record { g = g; size = size; words = words.items } }
@@ -56,8 +56,8 @@ impl Pilot {
         Pilot { g, size, words }
     }
 
-    /// The pilot with these words, row by row, and None exactly where `g` is no scale, a word passes 2^50 in size, or
-    /// there are not `size * size` words.
+    /// The pilot with these numbers, row by row, and None exactly where `g` is no scale, a number passes 2^50 in size, or
+    /// there are not `size * size` numbers.
     pub fn from_words(g: u32, size: usize, words: Vec<i64>) -> Option<Pilot>
         ensures { SomeIff result (IsPilotTable (record { g = g; size = size; words = words.items })) (record { g = g; size = size; words = words.items }) }
     {
@@ -83,7 +83,7 @@ impl Pilot {
         self.size
     }
 
-    /// The words of a row.
+    /// The numbers of a row.
     pub fn row(&self, i: usize) -> &[i64]
         requires { i < self.now.size }
         ensures len { length result.now ≡ self.now.size }
@@ -93,7 +93,7 @@ impl Pilot {
         &self.words[i * self.size..(i + 1) * self.size]
     }
 
-    /// The word of row `i` and column `k`.
+    /// The number of row `i` and column `k`.
     pub fn word(&self, i: usize, k: usize) -> i64
         requires row { i < self.now.size }
         requires column { k < self.now.size }

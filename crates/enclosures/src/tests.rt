@@ -1,4 +1,4 @@
-//! Which words are kept, and that the types cross threads.
+//! Which numbers are kept, and that the types cross threads.
 
 use crate::{Enclosed, Pilot, Radius};
 use std::test::Fail;

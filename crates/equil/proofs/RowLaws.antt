@@ -1,4 +1,4 @@
--- What one more word, row or exponent keeps.
+-- What one more interval, row or exponent keeps.
 use Rattle.std.proofs.Common.{◌≡◌, ◌≤◌, ◌<◌, ◌+◌, ◌∙◌, ◌++◌, ◌∷◌, [], ◌⊎◌, inl, inr, ℕ, ℤ, pos, List, Option, SomeIff, length, refl, sym, ap, subst, arith}
 use Rattle.std.proofs.lemmas.List.{length_push}
 use Rattle.whole_numbers.proofs.ListLaws.{each_push}
@@ -10,7 +10,7 @@ use Rattle.equil.specs.Exponents.{IsInRange}
 use Rattle.equil.specs.Rows.{AllInRange, AreScaled, IsRowScaled, KeepsRows}
 use Rattle.equil.specs.Tables.{working_entry, EntryFits}
 
--- b is a with the word w at the pair (i, j)
+-- b is a with the interval w at the pair (i, j)
 pub record IsSet (i j : ℕ) (w : Interval) (a b : SymTable) : Type 0 where
   pub here : (k l : ℕ) → IsPair i j k l → word b k l ≡ w
   pub others : (k l : ℕ) → k < a.size → l < a.size → ¬ (IsPair i j k l) → word b k l ≡ word a k l
@@ -57,6 +57,6 @@ rows_step n a b t e d kept r = record {
 pub range_push : (xs : List ℤ) (x : ℤ) → AllInRange xs → IsInRange x → AllInRange (xs ++ x ∷ [])
 range_push xs x before last = λ k h. each_push (λ k x. IsInRange x) xs (length xs) x (pos 0) refl before last k (omega (arith, length_push xs x))
 
--- the same answer, for equal words and powers
+-- the same answer, for equal intervals and powers
 pub scaled_same : (r : Option Interval) (limit : ℕ) (w v : Interval) (k m : ℤ) → w ≡ v → k ≡ m → SomeIff r (size (interval_scale10 w k) ≤ limit) (interval_scale10 w k) → SomeIff r (size (interval_scale10 v m) ≤ limit) (interval_scale10 v m)
 scaled_same r limit w v k m e f h = subst (λ m. SomeIff r (size (interval_scale10 v m) ≤ limit) (interval_scale10 v m)) f (subst (λ v. SomeIff r (size (interval_scale10 v k) ≤ limit) (interval_scale10 v k)) e h)

@@ -6,7 +6,7 @@ abbrev pub IsNearTop : ℕ → ℤ → Type 0
 IsNearTop h (pos k) = (2 ^ 60 * 100 ^ k < 100 * h) × (h ≤ 2 ^ 60 * 100 ^ k)
 IsNearTop h (negsuc k) = (2 ^ 60 < 100 * (h * 100 ^ suc k)) × (h * 100 ^ suc k ≤ 2 ^ 60)
 
--- the exponent of a diagonal word with this high end: 0 where the end is not above 0
+-- the exponent of a diagonal interval with this high end: 0 where the end is not above 0
 abbrev pub IsExponent : ℤ → ℤ → Type 0
 IsExponent (pos zero) e = e ≡ pos 0
 IsExponent (pos (suc n)) e = IsNearTop (suc n) e

@@ -1,4 +1,4 @@
-//! Working tables: a symmetric table and a right side scaled by powers of ten, so that each diagonal word has a
+//! Working tables: a symmetric table and a right side scaled by powers of ten, so that each diagonal interval has a
 //! high end between 2^60 / 100 and 2^60.
 #![tactic(auto)]
 
@@ -16,7 +16,7 @@ pub use tables::Working;
 /// Why a table has no working table.
 #[derive(Clone, Copy, Debug, PartialEq, Eq, Error)]
 pub enum EquilError {
-    /// The word at this row and column passes its bound. A word of the right side has them equal.
+    /// The interval at this row and column passes its bound. An interval of the right side has them equal.
     #[error("row {row}, column {col} passes its bound")]
     Range { row: usize, col: usize },
     /// Memory is wanting.

@@ -16,7 +16,7 @@ use interval_word::Iv;
 use std::alloc::Global;
 use sym_blocks::SymBlock;
 
-/// The working table. Range comes exactly where a word passes its bound, and names the first: the table's, row
+/// The working table. Range comes exactly where an interval passes its bound, and names the first: the table's, row
 /// by row up to the diagonal, before the right side's.
 pub fn working<const N: usize>(
     alloc: Global,

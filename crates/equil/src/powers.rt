@@ -3,7 +3,7 @@
 ghost use Rattle.std.specs.Prelude.{◌≡◌, ◌≤◌, ◌<◌, ◌*◌, ◌^◌, ℕ, ℤ, pos, negsuc, ◌≤ℤ◌, ◌<ℤ◌};
 ghost use Rattle.equil.specs.Exponents.{IsExponent, IsInRange};
 
-/// The greatest high end that a scaled diagonal word may have.
+/// The greatest high end that a scaled diagonal interval may have.
 const TOP: u128 = 1_152_921_504_606_846_976;
 
 /// The least `k` with `h / 100^k` at most 2^60.

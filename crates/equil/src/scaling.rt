@@ -15,7 +15,7 @@ use interval_word::Iv;
 use std::alloc::{AllocError, Global};
 use sym_blocks::SymBlock;
 
-/// The greatest size of a working word of a right side.
+/// The greatest size of a working interval of a right side.
 const LIMIT: u128 = 10_000_000_000_000_000_000_000_000_000_000_000_000;
 
 fn exponent_at(e: &[i32], i: usize) -> i32
@@ -37,7 +37,7 @@ fn entry_shift(e: &[i32], i: usize, j: usize) -> i32
     -exponent_at(e, i) - exponent_at(e, j)
 }
 
-/// The power of ten of a word of the right side.
+/// The power of ten of an interval of the right side.
 fn right_shift(e: &[i32], i: usize) -> i32
     requires row { i < length e.now }
     requires range { AllInRange e.now }
@@ -66,7 +66,7 @@ pub fn exponents<const N: usize>(alloc: Global, table: &SymBlock<N>) -> Result<V
     Ok(e)
 }
 
-/// The working word of a pair, and None exactly where it passes its bound.
+/// The working interval of a pair, and None exactly where it passes its bound.
 fn entry_scaled<const N: usize>(table: &SymBlock<N>, e: &[i32], i: usize, j: usize) -> Option<Iv>
     requires len { length e.now ≡ table.now.size }
     requires range { AllInRange e.now }
@@ -79,7 +79,7 @@ fn entry_scaled<const N: usize>(table: &SymBlock<N>, e: &[i32], i: usize, j: usi
         .scale10_within(entry_shift(e, i, j), 1 << 61)
 }
 
-/// Puts the working words of a row into `a`, up to the diagonal or to the first that passes its bound, whose
+/// Puts the working intervals of a row into `a`, up to the diagonal or to the first that passes its bound, whose
 /// column is the answer.
 fn scale_row<const N: usize>(
     a: &mut SymBlock<N>,
@@ -106,7 +106,7 @@ fn scale_row<const N: usize>(
     None
 }
 
-/// The working words of the table. Range comes exactly where one passes its bound, with the first.
+/// The working intervals of the table. Range comes exactly where one passes its bound, with the first.
 pub fn scaled_table<const N: usize>(
     alloc: Global,
     table: &SymBlock<N>,
@@ -132,7 +132,7 @@ pub fn scaled_table<const N: usize>(
     Ok(a)
 }
 
-/// The working word of a row of the right side, and None exactly where it passes its bound.
+/// The working interval of a row of the right side, and None exactly where it passes its bound.
 fn right_scaled(right: &[Iv], e: &[i32], i: usize) -> Option<Iv>
     requires len { length e.now ≡ length right.now }
     requires range { AllInRange e.now }
@@ -142,7 +142,7 @@ fn right_scaled(right: &[Iv], e: &[i32], i: usize) -> Option<Iv>
     right_at(right, i).scale10_within(right_shift(e, i), LIMIT)
 }
 
-/// The working words of the right side. Range comes exactly where one passes its bound, with the first.
+/// The working intervals of the right side. Range comes exactly where one passes its bound, with the first.
 pub fn scaled_right(alloc: Global, right: &[Iv], e: &[i32]) -> Result<Vec<Iv>, EquilError>
     requires len { length e.now ≡ length right.now }
     requires range { AllInRange e.now }

@@ -9,13 +9,13 @@ ghost use Rattle.equil.specs.Rows.{AllInRange};
 use interval_word::Iv;
 use sym_blocks::SymBlock;
 
-/// A table, a right side and their exponents, within the sizes that later sums need: the words of the table are
+/// A table, a right side and their exponents, within the sizes that later sums need: the intervals of the table are
 /// at most 2^61 in size, those of the right side at most 10^37, and the exponents lie from -9 to 11.
 #[derive(Drop)]
 pub struct Working<const N: usize> {
-    /// The table, word (i, j) times 10^(-e_i - e_j).
+    /// The table, interval (i, j) times 10^(-e_i - e_j).
     pub a: SymBlock<N>,
-    /// The right side, word i times 10^(12 - e_i).
+    /// The right side, interval i times 10^(12 - e_i).
     pub d: Vec<Iv>,
     /// The exponents.
     pub e: Vec<i32>,

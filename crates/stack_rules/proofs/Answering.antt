@@ -1,6 +1,7 @@
 -- What the calls of the steps answer is the answer of the rules.
 use Rattle.std.proofs.Common.{◌≡◌, ◌≤◌, ◌<◌, ◌*◌, ◌^◌, inl, inr, ℕ, ℤ, ◌+ℤ◌, List, length, slice_index_or, Result, Ok, refl, ap, ◌∙◌, subst, arith}
 use Rattle.stated_order.specs.Steps.{Then}
+use Rattle.stated_order.proofs.StepLaws.{then_gives, then_stops}
 use Rattle.whole_numbers.specs.Intervals.{size}
 use Rattle.whole_numbers.specs.Lists.{at}
 use Rattle.sym_blocks.specs.Tables.{word, before, zero_interval}
@@ -51,7 +52,7 @@ FromPilot s w = Then (IsPilotStep s w) (FromVector s w)
 
 -- ---- the working table
 pub working_refused : (s : Stack) (x : EquilError) → IfRange (IsFirstPast s.rows s.table) x → IsRefusedWith s (of_working x)
-working_refused s (equil.Range row col) h = inr (inr (record { cause = _; refused = h; is_cause = refl }))
+working_refused s (equil.Range row col) h = inr (then_stops _ _ _ h)
 working_refused s equil.Memory h = inl refl
 
 pub is_worked : (s : Stack) (w : Worked) → w.table.size ≡ s.rows → length w.table.words ≡ before w.table.size → length w.right ≡ w.table.size → length w.exponents ≡ w.table.size
@@ -70,11 +71,11 @@ is_worked s w rows words rights exponents words_small right_small working = reco
 -- ---- the steps after it, whose calls count the rows of the working table
 module _ (s : Stack) (w : Worked) (is : IsWorkedOf s w) where
   after_working : (r : Result Numbers StackError) → FromPilot s w r → IsAnswer s r
-  after_working r h = inl (record { gives = w; given = is; onward = h })
+  after_working r h = then_gives _ _ w r is h
 
   pilot_refused_by : (x : PilotError) → IsRefused s.rows (midpoints_of w) x → IsRefusedWith s (of_pilot x)
-  pilot_refused_by (pilot.Pivot row) h = inr (after_working _ (inr (record { cause = _; refused = h; is_cause = refl })))
-  pilot_refused_by (pilot.Condition col) h = inr (after_working _ (inr (record { cause = _; refused = h; is_cause = refl })))
+  pilot_refused_by (pilot.Pivot row) h = inr (after_working _ (then_stops _ _ _ h))
+  pilot_refused_by (pilot.Condition col) h = inr (after_working _ (then_stops _ _ _ h))
   pilot_refused_by pilot.Memory h = inl refl
 
   pub pilot_refused : (x : PilotError) → IsRefused w.table.size (midpoints_of w) x → IsRefusedWith s (of_pilot x)
@@ -88,10 +89,10 @@ module _ (s : Stack) (w : Worked) (is : IsWorkedOf s w) where
 
   module _ (p : PilotTable) (of_p : IsPilotOf s w p) where
     after_pilot : (r : Result Numbers StackError) → FromVector s w p r → IsAnswer s r
-    after_pilot r h = after_working r (inl (record { gives = p; given = of_p; onward = h }))
+    after_pilot r h = after_working r (then_gives _ _ p r of_p h)
 
     vector_refused_by : (x : VectorError) → IsVectorRefused s.rows (intervals_of w) p x → IsRefusedWith s (of_vector x)
-    vector_refused_by (vector.Range row) h = inr (after_pilot _ (inr (record { cause = _; refused = (refl, h); is_cause = refl })))
+    vector_refused_by (vector.Range row) h = inr (after_pilot _ (then_stops _ _ _ (refl, h)))
     vector_refused_by vector.Memory h = inl refl
 
     pub vector_refused : (x : VectorError) → IsVectorRefused w.table.size (intervals_of w) p x → IsRefusedWith s (of_vector x)
@@ -102,11 +103,11 @@ module _ (s : Stack) (w : Worked) (is : IsWorkedOf s w) where
 
     module _ (y : List ℤ) (of_y : IsVectorOf s w p y) where
       after_vector : (r : Result Numbers StackError) → FromCertificate s w p y r → IsAnswer s r
-      after_vector r h = after_pilot r (inl (record { gives = y; given = of_y; onward = h }))
+      after_vector r h = after_pilot r (then_gives _ _ y r of_y h)
 
       check_refused_by : (x : CheckError) → IsCheckRefused s.rows (intervals_of w) p (at y) x → IsRefusedWith s (of_certificate x)
-      check_refused_by (check.Residual row error) h = inr (after_vector _ (inr (record { cause = _; refused = h; is_cause = refl })))
-      check_refused_by (check.Defect row parts) h = inr (after_vector _ (inr (record { cause = _; refused = h; is_cause = refl })))
+      check_refused_by (check.Residual row error) h = inr (after_vector _ (then_stops _ _ _ h))
+      check_refused_by (check.Defect row parts) h = inr (after_vector _ (then_stops _ _ _ h))
       check_refused_by check.Memory h = inl refl
 
       pub check_refused : (x : CheckError) → IsCheckRefused w.table.size (intervals_of w) p (at y) x → IsRefusedWith s (of_certificate x)
@@ -114,14 +115,10 @@ module _ (s : Stack) (w : Worked) (is : IsWorkedOf s w) where
 
       module _ (v : Radius) (certified : IsCertified w.table.size (intervals_of w) p (at y) v) where
         after_check : (r : Result Numbers StackError) → FromPrinting s w p y (certificate_of v) r → IsAnswer s r
-        after_check r h = after_vector r (inl (record {
-          gives = certificate_of v;
-          given = record { radius = v; certified = subst (λ n. IsCertified n (intervals_of w) p (at y) v) is.size certified; is = refl };
-          onward = h;
-        }))
+        after_check r h = after_vector r (then_gives _ _ (certificate_of v) r (record { radius = v; certified = subst (λ n. IsCertified n (intervals_of w) p (at y) v) is.size certified; is = refl }) h)
 
         print_refused_by : (x : PrintError) → IsPrintRefused s.rows (power_of s w) s.apriori (at y) (radius_in (certificate_of v)) x → IsRefusedWith s (of_printing x)
-        print_refused_by (print.Range row) h = inr (after_check _ (inr (record { cause = _; refused = (refl, h); is_cause = refl })))
+        print_refused_by (print.Range row) h = inr (after_check _ (then_stops _ _ _ (refl, h)))
         print_refused_by print.Memory h = inl refl
 
         pub print_refused : (x : PrintError) → IsPrintRefused w.table.size (power_of s w) s.apriori (at y) (radius_in (certificate_of v)) x → IsRefusedWith s (of_printing x)
@@ -129,11 +126,9 @@ module _ (s : Stack) (w : Worked) (is : IsWorkedOf s w) where
 
         pub answered : (rows : List Printed) → ArePrinted w.table.size (intervals_of w) (power_of s w) s.apriori (at y) (radius_in (certificate_of v)) rows
             → (g : ℕ) → g ≡ p.g → IsAnswer s (Ok (record { g = g; parts = v.b; error = v.m; rows = rows }))
-        answered rows h g scale = after_check _ (inl (record {
-          gives = rows;
-          given = subst (λ n. ArePrinted n (intervals_of w) (power_of s w) s.apriori (at y) (radius_in (certificate_of v)) rows) is.size h;
-          onward = ap (λ k. Ok (record { g = k; parts = v.b; error = v.m; rows = rows })) scale;
-        }))
+        answered rows h g scale = after_check _ (then_gives _ _ rows _
+            (subst (λ n. ArePrinted n (intervals_of w) (power_of s w) s.apriori (at y) (radius_in (certificate_of v)) rows) is.size h)
+            (ap (λ k. Ok (record { g = k; parts = v.b; error = v.m; rows = rows })) scale))
 
 -- ---- what is printed is certified
 pub certified_by : (n m : ℕ) (stack w : Table) (e t : ℕ → ℤ) (x0 : ℕ → Decimal) (y z : List ℤ) (r : ℕ → ℕ) (ps : List Printed) → m ≡ n → z ≡ y

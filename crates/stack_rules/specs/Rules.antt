@@ -70,7 +70,7 @@ pub record IsVectorOf (s : Stack) (w : Worked) (p : PilotTable) (y : List ℤ) :
   pub len : length y ≡ s.rows
   pub vector : IsStartVector s.rows (intervals_of w) p (at y)
 
--- the start vector, or the first row in which the sizes of a turn's vector pass their bound
+-- the start vector, or the first row in which the sizes pass their bound after a refinement
 abbrev pub IsVectorStep : Stack → Worked → PilotTable → Result (List ℤ) StackError → Type 0
 IsVectorStep s w p (Ok y) = IsVectorOf s w p y
 IsVectorStep s w p (Err (Range row col)) = (row ≡ col) × IsVectorRange s.rows (intervals_of w) p row

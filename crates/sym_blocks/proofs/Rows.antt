@@ -1,4 +1,4 @@
--- Places of words in the list.
+-- Places of intervals in the list.
 use Rattle.std.proofs.Common.{◌≡◌, ◌≤◌, ◌<◌, ◌+◌, ◌-◌, ◌*◌, ◌/◌, inl, inr, ℕ, zero, suc, refl, ap, arith, max, min, slice_index_or}
 use Rattle.std.proofs.Math.Decide.{dec_lt}
 use Rattle.sym_blocks.specs.Tables.{before, lower_place, place, SymTable, word, zero_interval, IsPair}

@@ -1,4 +1,4 @@
--- A list of lower words after one is written, read at pairs; and what holds at each place if it holds at each pair.
+-- A list of lower intervals after one is written, read at pairs; and what holds at each place if it holds at each pair.
 use Rattle.std.proofs.Common.{◌≡◌, ◌≤◌, ◌<◌, ◌∙◌, ℕ, List, length, slice_index_or, slice_set, subst, sym}
 use Rattle.std.proofs.lemmas.Grind.{get_or-set_at}
 use Rattle.std.proofs.lemmas.List.{get_or-set_other}

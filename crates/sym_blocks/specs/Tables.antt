@@ -1,31 +1,31 @@
--- Symmetric tables and lower triangles, by the lists of their lower words, row by row.
+-- Symmetric tables and lower triangles, by the lists of their lower intervals, row by row.
 use Rattle.std.specs.Prelude.{◌≡◌, ◌+◌, ◌⊎◌, ℕ, zero, suc, ℤ, pos, ◌+ℤ◌, List, max, min, slice_index_or, FitsSigned}
 use Rattle.std.specs.Int.{w128}
 use Rattle.whole_numbers.specs.Intervals.{Interval, point_interval}
 
--- the word of the number 0
+-- the interval of the number 0
 abbrev pub zero_interval : Interval
 zero_interval = point_interval (pos 0)
 
--- how many words stand in the rows before row n, each up to its diagonal
+-- how many intervals stand in the rows before row n, each up to its diagonal
 unfoldable pub before : ℕ → ℕ
 before zero = 0
 before (suc n) = before n + suc n
 
--- where the word (i, j) stands, for j at most i
+-- where the interval (i, j) stands, for j at most i
 abbrev pub lower_place : ℕ → ℕ → ℕ
 lower_place i j = before i + j
 
--- where the word of a pair stands, in either order
+-- where the interval of a pair stands, in either order
 abbrev pub place : ℕ → ℕ → ℕ
 place i j = lower_place (max i j) (min i j)
 
--- a symmetric table: its size and its lower words
+-- a symmetric table: its size and its lower intervals
 pub record SymTable : Type 0 where
   pub size : ℕ
   pub words : List Interval
 
--- the word of the pair (i, j)
+-- the interval of the pair (i, j)
 abbrev pub word : SymTable → ℕ → ℕ → Interval
 word table i j = slice_index_or table.words (place i j) zero_interval
 

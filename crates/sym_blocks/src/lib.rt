@@ -1,6 +1,6 @@
 //! Symmetric tables of intervals and lower triangles of whole numbers, of at most 1,000 rows. A contract sees
-//! a table's size and its lower words, read at a pair of indices. The parameter `N` is the edge of the
-//! tiles that a layout may use; no clause speaks of it, so tables of each `N` hold equal words.
+//! a table's size and its lower intervals, read at a pair of indices. The parameter `N` is the edge of the
+//! tiles that a layout may use; no clause speaks of it, so tables of each `N` hold equal intervals.
 #![tactic(auto)]
 
 mod places;

@@ -1,9 +1,9 @@
-//! Where a word stands in the list of the rows, each up to its diagonal.
+//! Where an interval stands in the list of the rows, each up to its diagonal.
 
 ghost use Rattle.std.specs.Prelude.{◌≡◌, ◌≤◌, ◌<◌, ◌+◌, ◌*◌, ◌/◌, ℕ};
 ghost use Rattle.sym_blocks.specs.Tables.{before, lower_place};
 
-/// How many words stand before row `n`.
+/// How many intervals stand before row `n`.
 #[tactic(auto, using(crate::proofs::Rows::half))]
 pub fn words_before(n: usize) -> usize
     requires { n ≤ 1000 }
@@ -13,7 +13,7 @@ pub fn words_before(n: usize) -> usize
     n * (n + 1) / 2
 }
 
-/// Where the word (i, j) with `j <= i` stands.
+/// Where the interval (i, j) with `j <= i` stands.
 pub fn lower_place_of(i: usize, j: usize) -> usize
     requires row { i < 1000 }
     requires column { j ≤ i }

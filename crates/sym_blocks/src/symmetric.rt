@@ -81,7 +81,7 @@ impl<const N: usize> SymBlock<N> {
         self.size
     }
 
-    /// The word of the pair, in either order.
+    /// The interval of the pair, in either order.
     pub fn get(&self, i: usize, j: usize) -> Iv
         requires row { i < self.now.size }
         requires column { j < self.now.size }
@@ -90,7 +90,7 @@ impl<const N: usize> SymBlock<N> {
         word_at(&self.words, place_of(i, j))
     }
 
-    /// Makes `v` the word of the pair, in either order, and keeps every other word.
+    /// Makes `v` the interval of the pair, in either order, and keeps every other interval.
     pub fn set(&mut self, i: usize, j: usize, v: Iv)
         requires row { i < self.old.size }
         requires column { j < self.old.size }
@@ -102,7 +102,7 @@ impl<const N: usize> SymBlock<N> {
         self.words[place_of(i, j)] = v;
     }
 
-    /// Adds the other table's words.
+    /// Adds the other table's intervals.
     pub fn add_assign(&mut self, other: &SymBlock<N>)
         requires sizes { self.old.size ≡ other.now.size }
         requires fits { (i j : ℕ) → i < self.old.size → j ≤ i → SumFits (word self.old i j) (word other.now i j) }

@@ -1,4 +1,4 @@
--- Systems within words, the certificate, and what it implies.
+-- Systems within intervals, the certificate, and what it implies.
 use Rattle.std.proofs.Common.{◌≡◌, ℕ, zero, suc, pos, ℤ, ◌+ℤ◌, ◌*ℤ◌, arith, refl, ap, ◌∙◌, ◌≤◌, ◌<◌, ◌*◌, ◌+◌, ◌-◌, ◌^◌, min, unsigned_abs}
 use Rattle.std.proofs.Math.IntN.{◌-ℤ◌}
 use Rattle.std.proofs.lemmas.Int.{ints, unsigned_abs-mul}
@@ -111,7 +111,7 @@ solution_step n g h r t y S v i small lies sol l =
     let scaled : S.q * (p * distance v y i) ≤ S.q * (total_to n (λ j. defect_size n p r t i j * distance v y j) + p * (v.s * row_error n g h r t y i)) = omega (arith, step, sized, error) in
     omega (arith, le_of_mul-le-mul_left scaled lies.some, split, split')
 
--- Each solution of each system in the words lies around y.
+-- Each solution of each system in the intervals lies around y.
 pub enclosed : (n g h : ℕ) (r : ℕ → ℕ → ℤ) (t : Table) (y : ℕ → ℤ) (B M : ℕ) (S : System) (v : Fractions) (i : ℕ)
     → Passes (test_of n g h r t y B M) → LiesIn n t S → Solves n S v → i < n → Holds (around (y i) (radius n g h r t y B M i)) (v.x i) v.s
 enclosed n g h r t y B M S v i pass lies sol l =
@@ -156,7 +156,7 @@ pair_row n g r t S e i lies l rows =
     let scaled : S.q * (p * unsigned_abs (e i)) ≤ S.q * total_to n (λ j. defect_size n p r t i j * unsigned_abs (e j)) = omega (arith, step, sized) in
     omega (arith, le_of_mul-le-mul_left scaled lies.some, ap (λ z. z * unsigned_abs (e i)) (pow_split g))
 
--- Two solutions of one system in the words are equal, as fractions.
+-- Two solutions of one system in the intervals are equal, as fractions.
 pub unique : (n g h : ℕ) (r : ℕ → ℕ → ℤ) (t : Table) (y : ℕ → ℤ) (B M : ℕ) (S : System) (v u : Fractions) (i : ℕ)
     → Passes (test_of n g h r t y B M) → LiesIn n t S → Solves n S v → Solves n S u → i < n → v.x i *ℤ pos u.s ≡ u.x i *ℤ pos v.s
 unique n g h r t y B M S v u i pass lies one two l =

@@ -158,7 +158,7 @@ solvable (suc n) a c inj =
       | inr all ↦ absurd (one_is_zero (sym (at_last n (λ j. pos 0) (pos 1)) ∙ inj (with_last n (λ j. pos 0) (pos 1)) (λ i l. row_by_last n a i (λ j. pos 0) (pos 1) ∙ ap (λ w. w +ℤ a i n *ℤ pos 1) (sum_to_same n (λ j. a i j *ℤ pos 0) (λ j. pos 0) (λ j m. *ℤ-zero (a i j)) ∙ sum_to-zero n) ∙ ap (λ w. pos 0 +ℤ w *ℤ pos 1) (all i l)) n (omega arith)))
     ]
 
--- ---- systems in the words of a certificate that passes
+-- ---- systems in the intervals of a certificate that passes
 pub injective : (n g h : ℕ) (r : ℕ → ℕ → ℤ) (t : Table) (y : ℕ → ℤ) (B M : ℕ) (S : System) → Passes (test_of n g h r t y B M) → LiesIn n t S → IsInjective n S.a
 injective n g h r t y B M S pass lies x rows i l =
     let below = pass.below in

@@ -1,4 +1,4 @@
--- Fractions that are equal, and sums of fractions with different denominators, in words.
+-- Fractions that are equal, and sums of fractions with different denominators, in intervals.
 use Rattle.std.proofs.Common.{◌≡◌, ℕ, ℤ, pos, ◌+ℤ◌, ◌*ℤ◌, ◌<◌, ◌*◌, arith, ap, ◌∙◌, sym}
 use Rattle.std.proofs.Math.IntN.{◌-ℤ◌}
 use Rattle.std.proofs.lemmas.Int.{ints}
@@ -22,7 +22,7 @@ same_from_product a b k some h =
     let g = le_from_product b a k some (omega (arith, ints)) in
     omega (arith, ints)
 
--- a word that holds a fraction holds each fraction equal to it
+-- an interval that holds a fraction holds each fraction equal to it
 pub holds_same : (w : Interval) (x y : ℤ) (q p : ℕ) → 0 < q → x *ℤ pos p ≡ y *ℤ pos q → Holds w x q → Holds w y p
 holds_same w x y q p some same h = record {
   above = le_from_product (w.lo *ℤ pos p) y q some (rw (*ℤ_right_comm w.lo (pos p) (pos q), ← same) (mul_mono_pos _ _ p h.above));

@@ -1,4 +1,4 @@
--- Products and quotients of fractions that words hold.
+-- Products and quotients of fractions that intervals hold.
 use Rattle.std.proofs.Common.{◌≡◌, ℕ, suc, ℤ, pos, negsuc, ◌*ℤ◌, neg_ℤ, ◌≤ℤ◌, ◌≤◌, ◌<◌, ◌*◌, ◌/◌, arith}
 use Rattle.std.specs.Int.{int_min, int_max}
 use Rattle.std.proofs.lemmas.Int.{ints, clamps, by_lt_z}
@@ -9,7 +9,7 @@ use Rattle.whole_numbers.proofs.Ring.{ring, *ℤ_assoc, mul_mono_pos}
 use Rattle.whole_numbers.proofs.EqualFractions.{products_apart}
 use Rattle.whole_numbers.proofs.Products.{interval_mul_contains}
 
--- the word of w with each end times k
+-- the interval of w with each end times k
 abbrev times_word : Interval → ℕ → Interval
 times_word w k = record { lo = w.lo *ℤ pos k; hi = w.hi *ℤ pos k }
 

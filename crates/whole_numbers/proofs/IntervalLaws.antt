@@ -62,7 +62,7 @@ pub holds_sum : (n : ℕ) (f : ℕ → Interval) (x : ℕ → ℤ) (q : ℕ) →
 holds_sum zero f x q h = record { above = omega (arith, ints); below = omega (arith, ints) }
 holds_sum (suc n) f x q h = holds_add (sum_intervals n f) (f n) (sum_to n x) (x n) q (holds_sum n f x q (λ k l. h k (omega arith))) (h n (omega arith))
 
--- sums of the same words are the same
+-- sums of the same intervals are the same
 pub sum_intervals_same : (n : ℕ) (f g : ℕ → Interval) → ((k : ℕ) → k < n → f k ≡ g k) → sum_intervals n f ≡ sum_intervals n g
 sum_intervals_same n f g h =
     let lo = sum_to_same n (λ k. (f k).lo) (λ k. (g k).lo) (λ k l. ap (λ w. w.lo) (h k l)) in

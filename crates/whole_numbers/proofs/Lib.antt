@@ -13,3 +13,4 @@ pub mod Sums
 pub mod IntervalLaws
 pub mod ListLaws
 pub mod SquareLaws
+pub mod ColumnsSet

@@ -1,4 +1,4 @@
--- What a word scaled by a power of ten holds.
+-- What an interval scaled by a power of ten holds.
 use Rattle.std.proofs.Common.{ℕ, suc, ℤ, pos, negsuc, ◌*ℤ◌, ◌≤ℤ◌, ◌*◌, ◌^◌}
 use Rattle.whole_numbers.specs.Scaling.{floor_scaled, ceil_scaled, interval_scale10}
 use Rattle.whole_numbers.specs.Intervals.{Interval, Holds}
@@ -30,7 +30,7 @@ abbrev pub scaled_under : ℕ → ℤ → ℕ
 scaled_under q (pos k) = q
 scaled_under q (negsuc k) = 10 ^ suc k * q
 
--- a fraction that a word holds, times 10^k, is held by the word scaled
+-- a fraction that an interval holds, times 10^k, is held by the interval scaled
 pub holds_scale10 : (k : ℤ) (w : Interval) (x : ℤ) (q : ℕ) → Holds w x q → Holds (interval_scale10 w k) (scaled_over x k) (scaled_under q k)
 holds_scale10 (pos k) w x q h = holds_raised k w x q h
 holds_scale10 (negsuc k) w x q h = holds_lowered k w x q h

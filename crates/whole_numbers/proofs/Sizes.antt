@@ -1,4 +1,4 @@
--- Sizes of words, of their sums and products, and of rounded quotients.
+-- Sizes of intervals, of their sums and products, and of rounded quotients.
 use Rattle.std.proofs.Common.{◌≡◌, ℕ, ℤ, pos, negsuc, neg_ℤ, ◌*ℤ◌, ◌*◌, ◌+◌, ◌/◌, ◌^◌, ◌≤◌, ◌<◌, arith, unsigned_abs}
 use Rattle.std.proofs.lemmas.Int.{ints, unsigned_abs-mul}
 use Rattle.std.proofs.Math.Nat.{mul-le-mul, mul-le-mul_left, mul-le-mul_right, le_of_mul-le-mul_left}
@@ -19,7 +19,7 @@ size_scale (negsuc k) w a b h l = let lo = abs-product (negsuc k) w.lo a b h (om
 pub size_sub : (w v : Interval) (a b : ℕ) → size w ≤ a → size v ≤ b → size (interval_sub w v) ≤ a + b
 size_sub w v a b h k = omega (arith, ints)
 
--- a sum is no greater than its words in sum
+-- a sum is no greater than its intervals in sum
 pub size_sum_by : (n : ℕ) (f : ℕ → Interval) → size (sum_intervals n f) ≤ total_to n (λ k. size (f k))
 size_sum_by n f =
     let p = total_to_le n (λ k. unsigned_abs (f k).lo) (λ k. size (f k)) (λ k l. omega arith) in

@@ -14,15 +14,15 @@ pub record Holds (w : Interval) (x : ℤ) (q : ℕ) : Type 0 where
   pub above : (w.lo *ℤ pos q) ≤ℤ x
   pub below : x ≤ℤ (w.hi *ℤ pos q)
 
--- the word of one number
+-- the interval of one number
 abbrev pub point_interval : ℤ → Interval
 point_interval v = record { lo = v; hi = v }
 
--- the sums of what two words hold
+-- the sums of what two intervals hold
 abbrev pub interval_add : Interval → Interval → Interval
 interval_add w v = record { lo = w.lo +ℤ v.lo; hi = w.hi +ℤ v.hi }
 
--- the differences of what two words hold
+-- the differences of what two intervals hold
 abbrev pub interval_sub : Interval → Interval → Interval
 interval_sub w v = record { lo = w.lo -ℤ v.hi; hi = w.hi -ℤ v.lo }
 
@@ -35,7 +35,7 @@ abbrev pub interval_scale : ℤ → Interval → Interval
 interval_scale (pos k) w = record { lo = pos k *ℤ w.lo; hi = pos k *ℤ w.hi }
 interval_scale (negsuc k) w = record { lo = negsuc k *ℤ w.hi; hi = negsuc k *ℤ w.lo }
 
--- the sum of the words f k over the k below n
+-- the sum of the intervals f k over the k below n
 abbrev pub sum_intervals : ℕ → (ℕ → Interval) → Interval
 sum_intervals n f = record { lo = sum_to n (λ k. (f k).lo); hi = sum_to n (λ k. (f k).hi) }
 
@@ -47,7 +47,7 @@ size w = max (unsigned_abs w.lo) (unsigned_abs w.hi)
 abbrev pub midpoint : Interval → ℤ
 midpoint w = floor_over (w.lo +ℤ w.hi) 2
 
--- the word over 2^h, rounded outward
+-- the interval over 2^h, rounded outward
 abbrev pub interval_shift : ℕ → Interval → Interval
 interval_shift h w = record { lo = floor_over w.lo (2 ^ h); hi = ceil_over w.hi (2 ^ h) }
 
@@ -66,12 +66,12 @@ interval_mul w v = record {
   hi = greatest_of (w.lo *ℤ v.lo) (w.lo *ℤ v.hi) (w.hi *ℤ v.lo) (w.hi *ℤ v.hi);
 }
 
--- v is in the word
+-- v is in the interval
 pub record Within (w : Interval) (v : ℤ) : Type 0 where
   pub above : w.lo ≤ℤ v
   pub below : v ≤ℤ w.hi
 
--- p is the least word with each product of a number of w and a number of v
+-- p is the least interval with each product of a number of w and a number of v
 pub record IsProductRange (w v p : Interval) : Type 0 where
   pub contains : (x y : ℤ) → Within w x → Within v y → Within p (x *ℤ y)
   pub least : (x : ℤ) × (y : ℤ) × (Within w x × Within v y × (p.lo ≡ x *ℤ y))

@@ -22,6 +22,6 @@ abbrev pub ceil_scaled : ℤ → ℤ → ℤ
 ceil_scaled z (pos k) = z *ℤ pos (10 ^ k)
 ceil_scaled z (negsuc k) = ceil_over z (10 ^ suc k)
 
--- the word times 10^k, rounded outward
+-- the interval times 10^k, rounded outward
 abbrev pub interval_scale10 : Interval → ℤ → Interval
 interval_scale10 w k = record { lo = floor_scaled w.lo k; hi = ceil_scaled w.hi k }

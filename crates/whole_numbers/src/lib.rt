@@ -1,6 +1,6 @@
 //! Arithmetic of whole numbers that fit 128 bits: products, quotients rounded down and up, and scaling by
-//! powers of two and ten. The definitions and the laws of whole numbers, of their sums, and of words
-//! (intervals of whole numbers that hold fractions) stand in `specs/` and `proofs/`, for the crates above.
+//! powers of two and ten. The definitions and the laws of whole numbers, of their sums, and of intervals
+//! (pairs of whole numbers between which fractions lie) stand in `specs/` and `proofs/`, for the crates above.
 #![tactic(auto)]
 
 ghost use Rattle.std.specs.Prelude.{◌≡◌, ℕ, ℤ, pos, ◌+ℤ◌, ◌-ℤ◌, ◌*ℤ◌, neg_ℤ, ◌≤ℤ◌, ◌<ℤ◌, ◌≤◌, ◌<◌, ◌*◌, ◌^◌, FitsSigned, unsigned_abs};
@@ -9,10 +9,12 @@ ghost use Rattle.whole_numbers.specs.Quotients.{floor_over, ceil_over};
 mod least;
 mod scaling;
 mod squares;
+mod transposes;
 
 pub use least::least_passed;
 pub use scaling::{scale_ceil, scale_floor, ten_to};
 pub use squares::Square;
+pub use transposes::{set_column, transposed};
 
 /// The product of two numbers whose sizes have a product of at most 2^126.
 #[tactic(auto, using(crate::proofs::Fits::product_bits, crate::proofs::Fits::product_value))]

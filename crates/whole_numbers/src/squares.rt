@@ -91,4 +91,12 @@ impl Square {
     {
         self.numbers[i * self.size + k] = v;
     }
+
+    /// The numbers, row by row.
+    pub fn into_numbers(self) -> Vec<i64>
+        ensures numbers { result.items ≡ self.numbers }
+        ensures square { length result.items ≡ self.size * self.size }
+    {
+        self.numbers
+    }
 }

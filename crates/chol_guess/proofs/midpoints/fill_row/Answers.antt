@@ -1,4 +1,4 @@
-use Rattle.std.proofs.Common.{◌≡◌, ◌∙◌, ◌≤◌, ◌+◌, ◌^◌, ap, arith, rules, subst, sym, unsigned_abs, FitsSigned, w64}
+use Rattle.std.proofs.Common.{◌∙◌, ◌≤◌, ◌^◌, arith, rules, subst, sym, unsigned_abs, FitsSigned, w64}
 use Rattle.std.proofs.lemmas.Int.{to_z-of_z}
 use Rattle.chol_guess.proofs.Makings.{row_filled, rows_filled}
 use Rattle.chol_guess.proofs.midpoints.fill_row.Goals as goal

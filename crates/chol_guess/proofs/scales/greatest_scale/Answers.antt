@@ -6,5 +6,6 @@ pub scales-preserved : goal.scales-preserved
 scales-preserved c = record {
   scale = next_scale c.scales.g c.scales.invariant.scale c.if-g-eq0.false;
   greater = fail_next c.args.f.now.size (square_at c.args.f.now) c.scales.g c.in-Some.col c.scales.invariant.scale c.in-Some.ensures.first c.scales.invariant.greater;
+  size = c.place_columns.ensures.size;
   small = c.place_columns.ensures.small;
 }

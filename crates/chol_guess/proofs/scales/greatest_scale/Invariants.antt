@@ -1,4 +1,4 @@
-use Rattle.std.proofs.Common.{◌^◌}
+use Rattle.std.proofs.Common.{◌≡◌, ◌^◌}
 use Rattle.whole_numbers.specs.Squares.{square_at}
 use Rattle.whole_numbers.specs.Lists.{AllAtMost}
 use Rattle.enclosures.specs.Pilots.{IsPilotScale}
@@ -9,7 +9,8 @@ abbrev pub invariant-scales : goal.invariant-scales
 invariant-scales l = record {
   scale : IsPilotScale l.g;
   greater : FailAbove l.f.size (square_at l.f) l.g;
-  small : AllAtMost (2 ^ 50) l.words;
+  size : l.r.size ≡ l.f.size;
+  small : AllAtMost (2 ^ 50) l.r.numbers;
 }
 
 abbrev pub decreases-scales : goal.decreases-scales

@@ -1,6 +1,6 @@
 use Rattle.std.proofs.lemmas.Result.{MatchResult-weaker}
 use Rattle.equil.specs.Tables.{table_of}
-use Rattle.enclosure_check.proofs.VectorLaws.{IsMade, made_numbers, made_turned, made_refused}
+use Rattle.enclosure_check.proofs.VectorLaws.{IsMade, made_numbers, made_refined, made_refused}
 use Rattle.enclosure_check.proofs.vector.refine.Goals as goal
 
 pub corrected-requires-clause-numbers : goal.corrected-requires-clause-numbers
@@ -34,4 +34,4 @@ returns g c =
       floors = rw c.deref-2.ensures.value at c.in_ok-shifted.ensures;
     } in
     let moved = rw c.deref-3.ensures.value at c.corrected.ensures in
-    MatchResult-weaker c.corrected.result moved (λ z. made_turned w.a.size t p y qs vs h made z.items) (made_refused w.a.size t p y qs vs h made)
+    MatchResult-weaker c.corrected.result moved (λ z. made_refined w.a.size t p y qs vs h made z.items) (made_refused w.a.size t p y qs vs h made)

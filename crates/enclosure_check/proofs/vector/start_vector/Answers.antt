@@ -1,7 +1,7 @@
 use Rattle.std.proofs.Common.{◌∙◌, arith, ap, replicate, pos}
 use Rattle.std.proofs.lemmas.Result.{err_from_is_err_and}
 use Rattle.equil.specs.Tables.{table_of}
-use Rattle.enclosure_check.proofs.VectorLaws.{zeros_after, turned_after, start_after, refused_after}
+use Rattle.enclosure_check.proofs.VectorLaws.{zeros_after, refined_after, start_after, refused_after}
 use Rattle.enclosure_check.proofs.vector.start_vector.Goals as goal
 
 pub loop-k-init : goal.loop-k-init
@@ -13,7 +13,7 @@ pub loop-k-preserved : goal.loop-k-preserved
 loop-k-preserved g c =
     let w = c.args.w.now in
     let turned = rw c.deref.ensures.value at c.in_ok-y-2.ensures in
-    turned_after w.a.size (table_of w.a w.d.items) c.args.p.now c.loop-k.k c.loop-k.y.items c.in_ok-y-2.y.items c.loop-k.invariant turned
+    refined_after w.a.size (table_of w.a w.d.items) c.args.p.now c.loop-k.k c.loop-k.y.items c.in_ok-y-2.y.items c.loop-k.invariant turned
 
 pub returns-in_err-y-2-clause-refused : goal.returns-in_err-y-2-clause-refused
 returns-in_err-y-2-clause-refused g c =
