@@ -10,3 +10,6 @@ mod taken;
 
 pub use elements::{Cell, Content, Heading, Triangle, normal_heading, solution_heading};
 pub use matrices::{one_matrix, read_elements};
+
+#[cfg(test)]
+mod tests;

@@ -61,7 +61,8 @@ impl Matrix<'_> {
         requires size { elements.old.size ≡ length self.now.places }
         requires row { IsCalled (length self.now.places) row }
         ensures size { elements.new.size ≡ elements.old.size }
-        ensures value { Leaves elements.new.cells (WithValue self.now.triangle self.now.places row index elements.old.cells (Some value)) result }
+        ensures value { Leaves elements.new.cells
+            (WithValue self.now.triangle self.now.places row index elements.old.cells (Some value)) result }
     {
         let column = self.places.called(index).ok_or(Cause::Index)?;
         let within = self.within(row, column)?;
@@ -85,7 +86,8 @@ impl Matrix<'_> {
         requires column { IsCalled (length self.now.places) pair.now.column }
         requires place { k < 3 }
         ensures size { elements.new.size ≡ elements.old.size }
-        ensures value { Leaves elements.new.cells (IsValueTaken self.now.triangle self.now.places line.now.text.now pair.now elements.old.cells k) result }
+        ensures value { Leaves elements.new.cells
+            (IsValueTaken self.now.triangle self.now.places line.now.text.now pair.now elements.old.cells k) result }
     {
         match given_on(line, k)? {
             Some(value) => self.take_value(elements, pair.row, pair.column.index + k, value),
@@ -97,7 +99,8 @@ impl Matrix<'_> {
     fn take_values(&self, elements: &mut Elements, line: &Line) -> Result<(), Stop>
         requires size { elements.old.size ≡ length self.now.places }
         ensures size { elements.new.size ≡ elements.old.size }
-        ensures values { Leaves elements.new.cells (AreValuesTaken self.now.triangle self.now.places elements.old.cells line.now.text.now) result }
+        ensures values { Leaves elements.new.cells
+            (AreValuesTaken self.now.triangle self.now.places elements.old.cells line.now.text.now) result }
     {
         let pair = self.places.pair_on(line)?;
         self.take_given(elements, line, &pair, 0)?;
@@ -109,7 +112,8 @@ impl Matrix<'_> {
     fn take_line(&self, elements: &mut Elements, line: &Line) -> Result<(), DocError>
         requires size { elements.old.size ≡ length self.now.places }
         ensures size { elements.new.size ≡ elements.old.size }
-        ensures line { LeavesLine elements.new.cells (IsLineTaken self.now.triangle self.now.places elements.old.cells (line_view line.now)) result }
+        ensures line { LeavesLine elements.new.cells
+            (IsLineTaken self.now.triangle self.now.places elements.old.cells (line_view line.now)) result }
     {
         match self.take_values(elements, line) {
             Ok(()) => Ok(()),
@@ -124,7 +128,8 @@ impl Matrix<'_> {
     /// Takes the lines.
     fn take_lines(&self, elements: &mut Elements, body: &[Line]) -> Result<(), DocError>
         requires size { elements.old.size ≡ length self.now.places }
-        ensures lines { LeavesLine elements.new.cells (Through (IsLineTaken self.now.triangle self.now.places) elements.old.cells (map line_view body.now)) result }
+        ensures lines { LeavesLine elements.new.cells
+            (Through (IsLineTaken self.now.triangle self.now.places) elements.old.cells (map line_view body.now)) result }
     {
         for line in body {
             self.take_line(elements, line)?;
