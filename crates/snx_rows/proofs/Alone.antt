@@ -16,7 +16,7 @@ use Rattle.snx_rows.specs.declared.rows.Row.{Row}
 use Rattle.snx_rows.specs.declared.rows.Shape.TheVariants.{Value, Vector}
 
 -- ---- the fields
-number_is_one : (text : List ℕ) → IsOne (IsNumber text)
+pub number_is_one : (text : List ℕ) → IsOne (IsNumber text)
 number_is_one text = renamed_is_one (λ fault. causes.Number fault) (IsAnswer text) (one_answer_of text)
 
 sized_is_one : (shape : Shape) (value : Decimal) → IsOne (IsSized shape value)
