@@ -7,7 +7,7 @@ mod indices;
 mod rows;
 mod steps;
 
-pub use blocks::read_rows;
+pub use blocks::{one_block, read_rows};
 pub use causes::{Cause, DocError, LineFault};
 pub use indices::read_index;
 pub use rows::{Row, Shape, one_row, read_row};
