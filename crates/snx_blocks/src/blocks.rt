@@ -9,8 +9,8 @@ ghost use Rattle.snx_rows.specs.declared.rows.Shape.{Shape};
 ghost use Rattle.snx_sites.specs.Plain.{PlainSite, PlainEpochRow};
 ghost use Rattle.snx_sites.specs.Sites.{AreSites, AreEpochs};
 ghost use Rattle.snx_sites.specs.Views.{site_view};
-ghost use Rattle.snx_blocks.specs.Documents.{PlainMatrix, IsFirst, IsMatrix, IsMatrixOf};
-ghost use Rattle.snx_blocks.specs.Parts.{bad_title, IsNewBlock, HasSoundRows};
+ghost use Rattle.snx_blocks.specs.Documents.{PlainMatrix, IsFirst, IsMatrix};
+ghost use Rattle.snx_blocks.specs.Parts.{bad_title, IsNewBlock, HasSoundRows, IsMatrixOver};
 ghost use Rattle.snx_blocks.specs.Views.{matrix_view};
 
 use crate::documents::Matrix;
@@ -71,7 +71,7 @@ pub(crate) fn new_matrix(
 ) -> Result<Matrix, DocError>
     requires { HasSoundRows (option_copied rows) }
     ensures matrix { (before : Option PlainMatrix) → is_some before ≡ stood_before → Answers matrix_view (IsMatrix before (option_copied rows.entry) heading (block_view block.now)) result }
-    ensures kept { IfOk result (λ matrix. IsMatrixOf (option_copied rows.entry) (matrix_view matrix)) }
+    ensures kept { IfOk result (λ matrix. IsMatrixOver (option_copied rows.entry) (matrix_view matrix)) }
 {
     match (stood_before, rows, heading) {
         (true, _, _) => Err(refusal(&block.title, Cause::Repeated)),

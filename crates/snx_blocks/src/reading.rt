@@ -5,6 +5,8 @@ ghost use Rattle.stated_order.specs.Steps.{Through};
 ghost use Rattle.snx_lines.specs.Views.{block_view};
 ghost use Rattle.snx_rows.specs.Blocks.{Answers};
 ghost use Rattle.snx_blocks.specs.Documents.{IsDocument, IsValid, IsSectionRead, IsBlockRead, empty_doc, whole};
+ghost use Rattle.snx_blocks.specs.Parts.{IsKept};
+ghost use Rattle.snx_blocks.specs.declared.sections.Section.TheVariants.{EstimateMatrix, AprioriMatrix, NormalMatrix};
 ghost use Rattle.snx_blocks.specs.Views.{doc_view};
 
 use crate::blocks::{new_epochs, new_matrix, new_rows, new_sites};
@@ -16,87 +18,108 @@ use snx_rows::{Cause, DocError, LineFault, Shape};
 use std::alloc::Global;
 use std::thread::Threads;
 
-/// The document so far with what a block of this section says.
-fn with_section(alloc: Global, mut doc: Doc, section: Section, block: &Block) -> Result<Doc, DocError>
-    requires { IsValid (doc_view doc) }
-    ensures reads { Answers doc_view (IsSectionRead section (doc_view doc) (block_view block.now)) result }
-    ensures valid { IfOk result (λ doc. IsValid (doc_view doc)) }
+/// Puts into the document the matrix over the estimates that a block says.
+fn put_estimate_matrix(alloc: Global, doc: &mut Doc, block: &Block) -> Result<(), DocError>
+    requires { IsKept (doc_view doc.old) }
+    ensures reads { Answers (λ _. doc_view doc.new) (IsSectionRead EstimateMatrix (doc_view doc.old) (block_view block.now)) result }
+    ensures kept { IfOk result (λ _. IsKept (doc_view doc.new)) }
+{
+    let stood_before = doc.estimate_matrix.is_some();
+    let heading = solution_heading(&block.title);
+    let matrix = new_matrix(alloc, stood_before, doc.estimates.as_deref(), heading, block)?;
+    doc.estimate_matrix = Some(matrix);
+    Ok(())
+}
+
+/// Puts into the document the matrix over the a priori values that a block says.
+fn put_apriori_matrix(alloc: Global, doc: &mut Doc, block: &Block) -> Result<(), DocError>
+    requires { IsKept (doc_view doc.old) }
+    ensures reads { Answers (λ _. doc_view doc.new) (IsSectionRead AprioriMatrix (doc_view doc.old) (block_view block.now)) result }
+    ensures kept { IfOk result (λ _. IsKept (doc_view doc.new)) }
+{
+    let stood_before = doc.apriori_matrix.is_some();
+    let heading = solution_heading(&block.title);
+    let matrix = new_matrix(alloc, stood_before, doc.apriori.as_deref(), heading, block)?;
+    doc.apriori_matrix = Some(matrix);
+    Ok(())
+}
+
+/// Puts into the document the matrix over the right sides that a block says.
+fn put_normal_matrix(alloc: Global, doc: &mut Doc, block: &Block) -> Result<(), DocError>
+    requires { IsKept (doc_view doc.old) }
+    ensures reads { Answers (λ _. doc_view doc.new) (IsSectionRead NormalMatrix (doc_view doc.old) (block_view block.now)) result }
+    ensures kept { IfOk result (λ _. IsKept (doc_view doc.new)) }
+{
+    let stood_before = doc.normal_matrix.is_some();
+    let heading = normal_heading(&block.title);
+    let matrix = new_matrix(alloc, stood_before, doc.vector.as_deref(), heading, block)?;
+    doc.normal_matrix = Some(matrix);
+    Ok(())
+}
+
+/// Puts into the document what a block of this section says.
+fn put_section(alloc: Global, doc: &mut Doc, section: Section, block: &Block) -> Result<(), DocError>
+    requires { IsKept (doc_view doc.old) }
+    ensures reads { Answers (λ _. doc_view doc.new) (IsSectionRead section (doc_view doc.old) (block_view block.now)) result }
+    ensures kept { IfOk result (λ _. IsKept (doc_view doc.new)) }
 {
     match section {
         Section::Estimates => {
             let stood_before = doc.estimates.is_some();
             let estimates = new_rows(alloc, stood_before, Shape::Value, block)?;
             doc.estimates = Some(estimates);
-            Ok(doc)
+            Ok(())
         }
         Section::Apriori => {
             let stood_before = doc.apriori.is_some();
             let apriori = new_rows(alloc, stood_before, Shape::Value, block)?;
             doc.apriori = Some(apriori);
-            Ok(doc)
+            Ok(())
         }
         Section::Vector => {
             let stood_before = doc.vector.is_some();
             let vector = new_rows(alloc, stood_before, Shape::Vector, block)?;
             doc.vector = Some(vector);
-            Ok(doc)
-        }
-        Section::EstimateMatrix => {
-            let stood_before = doc.estimate_matrix.is_some();
-            let heading = solution_heading(&block.title);
-            let estimate_matrix = new_matrix(alloc, stood_before, doc.estimates.as_deref(), heading, block)?;
-            doc.estimate_matrix = Some(estimate_matrix);
-            Ok(doc)
-        }
-        Section::AprioriMatrix => {
-            let stood_before = doc.apriori_matrix.is_some();
-            let heading = solution_heading(&block.title);
-            let apriori_matrix = new_matrix(alloc, stood_before, doc.apriori.as_deref(), heading, block)?;
-            doc.apriori_matrix = Some(apriori_matrix);
-            Ok(doc)
-        }
-        Section::NormalMatrix => {
-            let stood_before = doc.normal_matrix.is_some();
-            let heading = normal_heading(&block.title);
-            let normal_matrix = new_matrix(alloc, stood_before, doc.vector.as_deref(), heading, block)?;
-            doc.normal_matrix = Some(normal_matrix);
-            Ok(doc)
+            Ok(())
         }
         Section::Sites => {
             let stood_before = doc.sites.is_some();
             let sites = new_sites(alloc, stood_before, block)?;
             doc.sites = Some(sites);
-            Ok(doc)
+            Ok(())
         }
         Section::Epochs => {
             let stood_before = doc.epochs.is_some();
             let epochs = new_epochs(alloc, stood_before, block)?;
             doc.epochs = Some(epochs);
-            Ok(doc)
+            Ok(())
         }
+        Section::EstimateMatrix => put_estimate_matrix(alloc, doc, block),
+        Section::AprioriMatrix => put_apriori_matrix(alloc, doc, block),
+        Section::NormalMatrix => put_normal_matrix(alloc, doc, block),
     }
 }
 
-/// The document so far with what a block says, if it is read.
-fn with_block(alloc: Global, doc: Doc, block: &Block) -> Result<Doc, DocError>
-    requires { IsValid (doc_view doc) }
-    ensures reads { Answers doc_view (IsBlockRead (doc_view doc) (block_view block.now)) result }
-    ensures valid { IfOk result (λ doc. IsValid (doc_view doc)) }
+/// Puts into the document what a block says, if it is read.
+fn put_block(alloc: Global, doc: &mut Doc, block: &Block) -> Result<(), DocError>
+    requires { IsKept (doc_view doc.old) }
+    ensures reads { Answers (λ _. doc_view doc.new) (IsBlockRead (doc_view doc.old) (block_view block.now)) result }
+    ensures kept { IfOk result (λ _. IsKept (doc_view doc.new)) }
 {
     match section_of(block.name) {
-        Some(section) => with_section(alloc, doc, section, block),
-        None => Ok(doc),
+        Some(section) => put_section(alloc, doc, section, block),
+        None => Ok(()),
     }
 }
 
 /// The document of some blocks.
 fn doc_of(alloc: Global, blocks: &[Block]) -> Result<Doc, DocError>
     ensures reads { Answers doc_view (Through IsBlockRead empty_doc (map block_view blocks.now)) result }
-    ensures valid { IfOk result (λ doc. IsValid (doc_view doc)) }
+    ensures kept { IfOk result (λ doc. IsKept (doc_view doc)) }
 {
     let mut doc = Doc::empty();
     for block in blocks {
-        doc = with_block(alloc, doc, block)?;
+        put_block(alloc, &mut doc, block)?;
     }
     Ok(doc)
 }
