@@ -94,7 +94,7 @@ module _ (kind code point soln epoch : List ℕ) where
   named_is_one (Err (names.Epoch f)) (Err (names.Epoch g)) p q = ap (λ x. Err (names.Epoch x)) (fault_same (epoch_in epoch) f g p.4 q.4)
 
 -- ---- the other fields
-number_is_one : (text : List ℕ) → IsOne (IsNumber text)
+pub number_is_one : (text : List ℕ) → IsOne (IsNumber text)
 number_is_one text = renamed_is_one (λ fault. causes.Number fault) (IsAnswer text) (one_answer_of text)
 
 sized_is_one : (shape : Shape) (value : Decimal) → IsOne (IsSized shape value)
