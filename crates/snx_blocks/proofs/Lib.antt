@@ -1,2 +1,3 @@
-pub mod Parted
 pub mod Passes
+pub mod Titles
+pub mod Single

@@ -1,7 +1,7 @@
 //! Texts to documents.
 
 ghost use Rattle.std.specs.Prelude.{◌≡◌, ◌≤◌, ◌^◌, IfOk, length, map};
-ghost use Rattle.stated_order.specs.Steps.{Through};
+ghost use Rattle.stated_order.specs.Steps.{IsOne, Through};
 ghost use Rattle.snx_lines.specs.Views.{block_view};
 ghost use Rattle.snx_rows.specs.Blocks.{Answers};
 ghost use Rattle.snx_blocks.specs.Documents.{IsDocument, IsValid, IsSectionRead, IsBlockRead, empty_doc, whole};
@@ -65,32 +65,27 @@ fn put_section(alloc: Global, doc: &mut Doc, section: Section, block: &Block) ->
 {
     match section {
         Section::Estimates => {
-            let stood_before = doc.estimates.is_some();
-            let estimates = new_rows(alloc, stood_before, Shape::Value, block)?;
+            let estimates = new_rows(alloc, doc.estimates.is_some(), Shape::Value, block)?;
             doc.estimates = Some(estimates);
             Ok(())
         }
         Section::Apriori => {
-            let stood_before = doc.apriori.is_some();
-            let apriori = new_rows(alloc, stood_before, Shape::Value, block)?;
+            let apriori = new_rows(alloc, doc.apriori.is_some(), Shape::Value, block)?;
             doc.apriori = Some(apriori);
             Ok(())
         }
         Section::Vector => {
-            let stood_before = doc.vector.is_some();
-            let vector = new_rows(alloc, stood_before, Shape::Vector, block)?;
+            let vector = new_rows(alloc, doc.vector.is_some(), Shape::Vector, block)?;
             doc.vector = Some(vector);
             Ok(())
         }
         Section::Sites => {
-            let stood_before = doc.sites.is_some();
-            let sites = new_sites(alloc, stood_before, block)?;
+            let sites = new_sites(alloc, doc.sites.is_some(), block)?;
             doc.sites = Some(sites);
             Ok(())
         }
         Section::Epochs => {
-            let stood_before = doc.epochs.is_some();
-            let epochs = new_epochs(alloc, stood_before, block)?;
+            let epochs = new_epochs(alloc, doc.epochs.is_some(), block)?;
             doc.epochs = Some(epochs);
             Ok(())
         }
@@ -143,10 +138,13 @@ fn whole(stop: Option<FrameFault>, doc: Doc) -> Result<Doc, DocError>
 /// # Errors
 ///
 /// The first bad line of the text, with its cause; or want of memory.
+#[tactic(auto, using(crate::proofs::Single::document_is_one))]
 pub fn read_doc<R: Threads + Sync>(rt: &R, alloc: Global, text: &[u8]) -> Result<Doc, DocError>
     requires { length text.now ≤ 2 ^ 26 }
     ensures reads { Answers doc_view (IsDocument text.now) result }
     ensures valid { IfOk result (λ doc. IsValid (doc_view doc)) }
+    // each text has one document at most or one first bad line, and never both
+    ensures alone { IsOne (IsDocument text.now) }
 {
     let framing = framing(alloc, text)?;
     let doc = doc_of(alloc, &framing.blocks)?;
