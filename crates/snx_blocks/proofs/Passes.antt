@@ -9,30 +9,33 @@ use Rattle.snx_rows.specs.declared.causes.LineFault.{LineFault}
 use Rattle.snx_rows.specs.declared.causes.DocError.{DocError}
 use Rattle.snx_rows.specs.declared.causes.DocError.TheVariants.{Line, Memory}
 
-module _ {A V S : Type 0} (step : S → V → Result S LineFault → Type 0) (view : A → V) (list : List A) (i : ℕ) (d : A) (start so_far : S) (within : i < length list) (stands : Through step start (take i (map view list)) (Ok so_far)) where
+module _ {A V S : Type 0} (step : S → V → Result S LineFault → Type 0) (view : A → V) (list : List A) (i : ℕ) (item : A) (is : item ≡ get_or list i item) (start so_far : S) (within : i < length list) (stands : Through step start (take i (map view list)) (Ok so_far)) where
   seen_within : i < length (map view list)
   seen_within = subst (λ n. i < n) (sym (length-map list view)) within
 
+  item_at : get_or (map view list) i (view item) ≡ view item
+  item_at = get_or-map view list i item ∙ ap view (sym is)
+
   -- the members so far and this one
-  up_to : take (i + 1) (map view list) ≡ take i (map view list) ++ view (get_or list i d) ∷ []
-  up_to = take_more (map view list) i (view d) seen_within ∙ ap (λ x. take i (map view list) ++ x ∷ []) (get_or-map view list i d)
+  up_to : take (i + 1) (map view list) ≡ take i (map view list) ++ view item ∷ []
+  up_to = take_more (map view list) i (view item) seen_within ∙ ap (λ x. take i (map view list) ++ x ∷ []) item_at
 
   -- this one and those after it
-  from_here : drop i (map view list) ≡ view (get_or list i d) ∷ drop (i + 1) (map view list)
-  from_here = drop_more (map view list) i (view d) seen_within ∙ ap (λ x. x ∷ drop (i + 1) (map view list)) (get_or-map view list i d)
+  from_here : drop i (map view list) ≡ view item ∷ drop (i + 1) (map view list)
+  from_here = drop_more (map view list) i (view item) seen_within ∙ ap (λ x. x ∷ drop (i + 1) (map view list)) item_at
 
-  all_parts : take i (map view list) ++ (view (get_or list i d) ∷ drop (i + 1) (map view list)) ≡ map view list
+  all_parts : take i (map view list) ++ (view item ∷ drop (i + 1) (map view list)) ≡ map view list
   all_parts = ap (λ rest. take i (map view list) ++ rest) (sym from_here) ∙ take-append-drop i (map view list)
 
   -- a member that gives something is passed
-  pub pass_more : (after : S) → step so_far (view (get_or list i d)) (Ok after) → Through step start (take (i + 1) (map view list)) (Ok after)
+  pub pass_more : (after : S) → step so_far (view item) (Ok after) → Through step start (take (i + 1) (map view list)) (Ok after)
   pass_more after here =
       subst (λ seen. Through step start seen (Ok after)) (sym up_to)
-      (through_more step start so_far (take i (map view list)) (view (get_or list i d)) (Ok after) stands here)
+      (through_more step start so_far (take i (map view list)) (view item) (Ok after) stands here)
 
   -- a member that is refused ends it
-  pub pass_stops : {T U : Type 0} (now : T → S) (last : U → S) (error : DocError) → Answers now (step so_far (view (get_or list i d))) (Err error) → Answers last (Through step start (map view list)) (Err error)
+  pub pass_stops : {T U : Type 0} (now : T → S) (last : U → S) (error : DocError) → Answers now (step so_far (view item)) (Err error) → Answers last (Through step start (map view list)) (Err error)
   pass_stops now last (Line fault) here =
       subst (λ seen. Through step start seen (Err fault)) all_parts
-      (through_stops step start so_far (take i (map view list)) (drop (i + 1) (map view list)) (view (get_or list i d)) fault stands here)
+      (through_stops step start so_far (take i (map view list)) (drop (i + 1) (map view list)) (view item) fault stands here)
   pass_stops now last Memory here = tt

@@ -3,6 +3,7 @@ use Rattle.std.proofs.Common.{◌≡◌, Bool, true, false, List, Option, Some, 
 use Rattle.std.specs.Option.{is_some, option_map, ok_or}
 use Rattle.stated_order.specs.Steps.{Then}
 use Rattle.stated_order.proofs.StepLaws.{then_gives, then_stops, renamed_refusal}
+use Rattle.snx_lines.specs.Lines.{PlainLine}
 use Rattle.snx_lines.specs.Framing.{PlainBlock}
 use Rattle.snx_rows.specs.Rows.{fault_at}
 use Rattle.snx_rows.specs.Blocks.{Answers}
@@ -96,9 +97,9 @@ module _ (before : Option PlainMatrix) (rows : Option (List Row)) (heading : Opt
             then_gives (IsMatrixTitle before rows heading block.title) HasLines (record { heading = named; rows = given }) (Err fault) whole_title
             (then_stops (AreElements named.triangle given block.body) (λ cells r. r ≡ Ok (record { content = named.content; cells = cells })) fault h)
 
-        pub lines_refuse : {T : Type 0} (view : T → List Cell) (error : DocError) → Answers view (AreElements named.triangle given block.body) (Err error) → Answers matrix_view (IsMatrix before rows heading block) (Err error)
-        lines_refuse view (Line fault) h = lines_stop fault h
-        lines_refuse view Memory h = tt
+        pub lines_refuse : {T : Type 0} (view : T → List Cell) (body : List PlainLine) (error : DocError) → body ≡ block.body → Answers view (AreElements named.triangle given body) (Err error) → Answers matrix_view (IsMatrix before rows heading block) (Err error)
+        lines_refuse view body (Line fault) same h = lines_stop fault (subst (λ (b : List PlainLine). AreElements named.triangle given b (Err fault)) same h)
+        lines_refuse view body Memory same h = tt
 
   -- ---- what it puts into the document, where the code sees these rows and this heading
   module _ (put : PlainMatrix → PlainDoc) (seen : Option (List Row)) (said : Option Heading) (same : seen ≡ rows) (agreed : said ≡ heading) where

@@ -138,7 +138,6 @@ fn whole(stop: Option<FrameFault>, doc: Doc) -> Result<Doc, DocError>
 /// # Errors
 ///
 /// The first bad line of the text, with its cause; or want of memory.
-#[tactic(auto, using(crate::proofs::Single::document_is_one))]
 pub fn read_doc<R: Threads + Sync>(rt: &R, alloc: Global, text: &[u8]) -> Result<Doc, DocError>
     requires { length text.now ≤ 2 ^ 26 }
     ensures reads { Answers doc_view (IsDocument text.now) result }

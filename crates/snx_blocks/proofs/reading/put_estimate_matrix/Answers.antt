@@ -14,7 +14,7 @@ returns-in_err-matrix-clause-reads c =
     let known = seen_alike matrix_view c.args.doc.now.estimate_matrix c.is_some-stood_before.result c.is_some-stood_before.ensures in
     let from = err_from_is_err_and c.from_residual.result c.from_residual.ensures.1 in
     rw (from.1, from.2)
-    (matrix_refuses doc.estimate_matrix doc.estimates (solution_heading block.title.text) block (λ matrix. record doc { estimate_matrix = Some matrix }) (option_copied c.as_deref.result) c.solution_heading-heading.result c.as_deref.ensures.value c.solution_heading-heading.ensures _ _ c.in_err-matrix.field-0.0 (c.in_err-matrix.ensures.matrix doc.estimate_matrix known))
+    (matrix_refuses doc.estimate_matrix doc.estimates (solution_heading block.title.text) block (λ matrix. record doc { estimate_matrix = Some matrix }) (option_copied c.as_deref.result) c.solution_heading-heading.result c.as_deref.ensures.value c.solution_heading-heading.ensures matrix_view doc_view c.in_err-matrix.field-0.0 (c.in_err-matrix.ensures.matrix doc.estimate_matrix known))
 
 pub returns-clause-reads : goal.returns-clause-reads
 returns-clause-reads c =
