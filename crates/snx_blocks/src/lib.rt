@@ -1,6 +1,7 @@
 //! Whole SINEX texts as documents: what their blocks say, or the first bad line.
 #![tactic(auto)]
 
+mod blocks;
 mod documents;
 mod reading;
 mod sections;
