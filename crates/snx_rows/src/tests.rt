@@ -1,9 +1,10 @@
 //! Rows on lines, and the lines that are none.
 
-use crate::{Cause, LineFault, Row, Shape, read_index, read_row};
+use crate::{Cause, DocError, LineFault, Row, Shape, read_index, read_row, read_rows};
 use decimal_e::{Dec, DecFault};
 use snx_epoch::EpochFault;
 use snx_lines::{Kind, Line};
+use std::alloc::{AllocError, Global};
 use std::test::Fail;
 
 fn line_of<'a>(text: &'a [u8]) -> Line<'a> {
@@ -169,6 +170,79 @@ fn reads_rows(rt: HostRuntime) -> Result<(), Fail> {
             Err(fault) => {
                 assert_eq!(rt; fault, LineFault { line: 7, cause });
             }
+        }
+    }
+    Ok(())
+}
+
+fn lines_of<'a>(alloc: Global, texts: &[(u32, &'a [u8])]) -> Result<Vec<Line<'a>>, AllocError> {
+    let mut lines = Vec::new(alloc);
+    for (number, text) in texts {
+        lines.push(Line {
+            number: *number,
+            kind: Kind::Data,
+            text,
+        })?;
+    }
+    Ok(lines)
+}
+
+const ONE: &[u8] = b"     1 STAX   ABCD  A    1 24:001:00000 m    2  .100000000000000E+01";
+
+const TWO: &[u8] = b"    12 STAY   ABCD  A    1 24:001:00000 m    2  .100000000000000E+01";
+
+const INDEX_AGAIN: &[u8] = b"    01 STAZ   ABCD  A    1 24:001:00000 m    2  .300000000000000E+01";
+
+const NAME_AGAIN: &[u8] = b"     3 STAY   ABCD  A   01 24:001:00000 m    2  .300000000000000E+01";
+
+const NO_NAME: &[u8] = b"    12        ABCD  A    1 24:001:00000 m    2  .300000000000000E+01";
+
+// Blocks by their lines, and how many rows each has, or its first bad line.
+const BLOCKS: [(&[(u32, &[u8])], Result<usize, LineFault>); 6] = [
+    (&[], Ok(0)),
+    (&[(8, TWO), (9, ONE)], Ok(2)),
+    (
+        &[(8, TWO), (9, ONE), (11, INDEX_AGAIN), (12, NO_NAME)],
+        Err(LineFault {
+            line: 11,
+            cause: Cause::Repeated,
+        }),
+    ),
+    (
+        &[(8, ONE), (9, TWO), (10, NAME_AGAIN)],
+        Err(LineFault {
+            line: 10,
+            cause: Cause::Repeated,
+        }),
+    ),
+    (
+        &[(8, ONE), (9, INDEX_AGAIN), (10, NAME_AGAIN)],
+        Err(LineFault {
+            line: 9,
+            cause: Cause::Repeated,
+        }),
+    ),
+    (
+        &[(8, TWO), (13, NO_NAME), (14, TWO)],
+        Err(LineFault {
+            line: 13,
+            cause: Cause::Field,
+        }),
+    ),
+];
+
+#[test]
+fn reads_blocks(rt: HostRuntime) -> Result<(), Fail> {
+    for (texts, said) in BLOCKS {
+        let lines = lines_of(rt.alloc(), texts)?;
+        match read_rows(rt.alloc(), Shape::Value, &lines) {
+            Ok(rows) => {
+                assert_eq!(rt; Ok(rows.len()), said);
+            }
+            Err(DocError::Line(fault)) => {
+                assert_eq!(rt; Err(fault), said);
+            }
+            Err(DocError::Memory) => return Err("out of memory")?,
         }
     }
     Ok(())

@@ -7,3 +7,6 @@ mod sites;
 
 pub use epochs::{EpochRow, one_epochs, read_epochs};
 pub use sites::{SiteRow, one_sites, read_sites};
+
+#[cfg(test)]
+mod tests;
