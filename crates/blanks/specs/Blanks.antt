@@ -23,6 +23,10 @@ end_trimmed text = take (length text - suffix_len is_blank text) text
 abbrev pub trimmed : List ℕ → List ℕ
 trimmed text = end_trimmed (front_trimmed text)
 
--- a number in decimal digits at the right of so many columns, with spaces before it
+-- a text at the right of so many columns, with spaces before it
+abbrev pub right_aligned : ℕ → List ℕ → List ℕ
+right_aligned width text = replicate (width - length text) 32 ++ text
+
+-- a number in decimal digits, so
 abbrev pub right_justified : ℕ → ℕ → List ℕ
-right_justified n width = replicate (width - length (decimal n)) 32 ++ decimal n
+right_justified n width = right_aligned width (decimal n)

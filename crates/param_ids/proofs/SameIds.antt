@@ -1,11 +1,11 @@
 -- Names as keys: the test of two names holds exactly where they are equal.
-use Rattle.std.proofs.Common.{◌≡◌, true, ap, ◌∙◌, sym, subst}
+use Rattle.std.proofs.Common.{◌≡◌, true, ap, subst}
 use Rattle.std.specs.Prelude.{◌↔◌}
 use Rattle.std.specs.Ordering.{is_eq}
 use Rattle.std.proofs.lemmas.Cmp.{tied_itself}
 use Rattle.std.proofs.lemmas.Map.Views.{tells_apart}
 use Rattle.param_ids.specs.Plain.{PlainId}
-use Rattle.param_ids.specs.Order.{id_cmp, is_same_id}
+use Rattle.param_ids.specs.Order.{is_same_id}
 use Rattle.param_ids.proofs.Ordered.{id_total, id_exact}
 
 pub itself : (id : PlainId) → is_same_id id id ≡ true

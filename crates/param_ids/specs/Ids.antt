@@ -3,7 +3,7 @@ use Rattle.std.specs.Prelude.{◌≡◌, ◌⊎◌, ℕ, List, [], ◌∷◌, So
 use Rattle.std.specs.List.{join_with_byte}
 use Rattle.blanks.specs.Blanks.{trimmed}
 use Rattle.snx_lines.specs.Lines.{columns}
-use Rattle.snx_epoch.specs.Moments.{epoch_in, IsTextOf}
+use Rattle.snx_epoch.specs.Moments.{epoch_in, epoch_text}
 use Rattle.param_ids.specs.Texts.{kind_text, code_text, point_text, soln_text}
 use Rattle.param_ids.specs.Plain.{PlainId}
 use Rattle.param_ids.specs.declared.ids.IdFault.{IdFault}
@@ -27,9 +27,10 @@ IsNamed kind code point soln epoch (Err (faults.Epoch fault)) = IsSome (kind_tex
 abbrev pub IsReadAs : List ℕ → Result PlainId IdFault → Type 0
 IsReadAs row result = IsNamed (columns row 8 13) (columns row 15 18) (columns row 20 21) (columns row 23 26) (columns row 28 39) result
 
--- the text of a name: its texts without blanks and its epoch, joined by `/`
+-- a name's texts without blanks and the text of a time, joined by `/`
 abbrev pub joined_text : PlainId → List ℕ → List ℕ
 joined_text id time = join_with_byte 47 (trimmed id.kind ∷ trimmed id.code ∷ trimmed id.point ∷ trimmed id.soln ∷ time ∷ [])
 
-abbrev pub IsIdText : PlainId → List ℕ → Type 0
-IsIdText id text = (time : List ℕ) × IsTextOf id.epoch time × (text ≡ joined_text id time)
+-- the text of a name
+abbrev pub id_text : PlainId → List ℕ
+id_text id = joined_text id (epoch_text id.epoch)

@@ -2,12 +2,14 @@
 #![tactic(auto)]
 
 mod ids;
+mod label;
 mod listing;
 mod pushing;
 mod scaling;
 mod texts;
 
 pub use ids::{IdFault, ParamId};
+pub use label::push_label;
 pub use listing::{Names, NamesError};
 pub use pushing::push_id;
 pub use scaling::{Scales, scale_of};

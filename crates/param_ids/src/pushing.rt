@@ -1,8 +1,8 @@
 //! The text of a name.
 
-ghost use Rattle.std.specs.Prelude.{◌≡◌, ◌++◌, ◌+◌, ◌-◌, ℕ, List, OnOk, OnErr, length, take};
+ghost use Rattle.std.specs.Prelude.{◌≡◌, ◌++◌, OnOk, OnErr, length, take};
 ghost use Rattle.std.specs.List.{flat_map};
-ghost use Rattle.param_ids.specs.Ids.{IsIdText};
+ghost use Rattle.param_ids.specs.Ids.{id_text};
 
 use crate::ids::ParamId;
 use blanks::trim;
@@ -19,16 +19,28 @@ fn push_parts(out: &mut Vec<u8>, parts: &[&[u8]]) -> Result<(), AllocError>
     Ok(())
 }
 
+/// Appends these parts, or nothing.
+pub(crate) fn push_all(out: &mut Vec<u8>, parts: &[&[u8]]) -> Result<(), AllocError>
+    ensures ok { OnOk result (out.new.items ≡ out.old.items ++ flat_map (λ part. part.now) parts.now) }
+    ensures err { OnErr result (out.new.items ≡ out.old.items) }
+{
+    let before = out.len();
+    let pushed = push_parts(out, parts);
+    if pushed.is_err() {
+        out.truncate(before);
+    }
+    pushed
+}
+
 /// Appends the text of a name: its texts without blanks and its moment, joined by `/`.
 ///
 /// # Errors
 ///
 /// Want of memory; the bytes are then as they were.
 pub fn push_id(out: &mut Vec<u8>, id: &ParamId) -> Result<(), AllocError>
-    ensures ok { OnOk result ((text : List ℕ) × IsIdText id.now text × (out.new.items ≡ out.old.items ++ text)) }
+    ensures ok { OnOk result (out.new.items ≡ out.old.items ++ id_text id.now) }
     ensures err { OnErr result (out.new.items ≡ out.old.items) }
 {
-    let before = out.len();
     let time = print_epoch(&id.epoch);
     let parts: [&[u8]; 9] = [
         trim(&id.kind),
@@ -41,9 +53,5 @@ pub fn push_id(out: &mut Vec<u8>, id: &ParamId) -> Result<(), AllocError>
         b"/",
         &time,
     ];
-    let pushed = push_parts(out, &parts);
-    if pushed.is_err() {
-        out.truncate(before);
-    }
-    pushed
+    push_all(out, &parts)
 }

@@ -1,6 +1,8 @@
 //! Names on rows, in lists and in tables of scales.
 
-use crate::{IdFault, Names, NamesError, ParamId, Scales, kind_of, push_id, scale_of, unit_of};
+use crate::{
+    IdFault, Names, NamesError, ParamId, Scales, kind_of, push_id, push_label, scale_of, unit_of,
+};
 use snx_epoch::{Epoch, EpochFault};
 use snx_lines::{Kind, Line};
 use std::alloc::AllocError;
@@ -49,6 +51,33 @@ fn reads_names(rt: HostRuntime) -> Result<(), Fail> {
     let shape = read(b"     1 STAX   ABCD  A    1 24:1:0");
     let shape = crosses_threads(&shape);
     assert_eq!(rt; *shape, Err(IdFault::Epoch(EpochFault::Shape)));
+    Ok(())
+}
+
+#[test]
+fn writes_labels(rt: HostRuntime) -> Result<(), Fail> {
+    let labels: [(usize, &[u8; 4], &[u8]); 4] = [
+        (1, b"m   ", b"     1 STAX   ABCD  A    1 24:001:00000 m   "),
+        (
+            99999,
+            b"masD",
+            b" 99999 XPO    ---- AB ---- 00:000:00000 masD",
+        ),
+        (
+            120,
+            b"m/y ",
+            b"   120 RS_RA  1234      12 51:001:86399 m/y ",
+        ),
+        (7, b"    ", b"     7 ZTD                 50:365:86399     "),
+    ];
+    for (index, unit, label) in labels {
+        let mut out = Vec::new(rt.alloc());
+        match read(label) {
+            Ok(id) => push_label(&mut out, index, &id, unit)?,
+            Err(_) => return Err("a name")?,
+        }
+        assert_eq!(rt; out.as_slice(), label);
+    }
     Ok(())
 }
 

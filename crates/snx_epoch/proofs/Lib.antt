@@ -1,2 +1,3 @@
 pub mod YearDays
 pub mod Times
+pub mod Printed

@@ -5,7 +5,7 @@ use Rattle.std.proofs.lemmas.Int.{by_lt_z}
 use Rattle.jiff_core.specs.Calendar.{days_from_civil, day_of_year, day_count, days_in_year, IsCivilDate}
 use Rattle.jiff_core.proofs.SignedLemmas.{signed_arith}
 use Rattle.jiff_core.proofs.MarchLemmas.{day_count-early}
-use Rattle.jiff_core.proofs.CalendarLemmas.{days_from_civil-day_count, day_count-day_of_year, day_count-later_year, day_count-lt_year, day_of_year_bound}
+use Rattle.jiff_core.proofs.CalendarLemmas.{days_from_civil-day_count, day_count-day_of_year, day_count-next_year, day_count-later_year, day_count-lt_year, day_of_year_bound}
 use Rattle.snx_epoch.specs.Moments.{day_number, has_day, IsDayOf}
 
 pub from_new_year : (y : ℤ) (m d n : ℕ) → 1 ≤ d → day_of_year y m d ≡ n → days_from_civil y m d ≡ days_from_civil y 1 1 +ℤ (pos n -ℤ pos 1)
@@ -27,6 +27,14 @@ begins-after year low =
 
 days-2050 : days_in_year (pos 2050) ≡ 365
 days-2050 = refl
+
+-- the first day of 1951, and the day after the last of 2050
+pub first-1951 : day_number 1951 1 ≡ negsuc 6939
+first-1951 = omega (arith, signed_arith, count-1951, days_from_civil-day_count (pos 1951) 1 1)
+
+pub first-2051 : day_number 2051 1 ≡ pos 29585
+first-2051 =
+    omega (arith, signed_arith, count-2050, days-2050, days_from_civil-day_count (pos 2051) 1 1, day_count-next_year (pos 2050) (pos 2051) (omega (arith, signed_arith)) refl)
 
 pub has_bounds : (year place : ℕ) → has_day year place ≡ true → (1 ≤ place) × (place ≤ days_in_year (pos year))
 has_bounds year place has = let p = and_parts _ _ has in (leb-true 1 place p.0, leb-true place (days_in_year (pos year)) p.1)

@@ -1,7 +1,7 @@
 -- Moments of a SINEX text: `YY:DDD:SSSSS`, a year of two digits, the day in the year and the second in the day (SINEX 2.02 format description).
 -- Days are counted from 1970-01-01 by the Gregorian calendar of `jiff_core`.
-use Rattle.std.specs.Prelude.{◌≡◌, ◌≤◌, ◌+◌, ◌-◌, ◌*◌, ◌/◌, ◌%◌, ℕ, Bool, true, ◌||◌, ◌&&◌, ◌==◌, nat_le, nat_lt, if◌then◌else◌, List, [], ◌∷◌, drop, length, Result, Ok, Err, ℤ, pos, negsuc, ◌+ℤ◌, ◌-ℤ◌, ◌*ℤ◌, ◌≤ℤ◌, int_le, slice_index, IsTrue}
-use Rattle.std.specs.List.{list_all}
+use Rattle.std.specs.Prelude.{◌≡◌, ◌≤◌, ◌+◌, ◌-◌, ◌*◌, ◌/◌, ◌%◌, ℕ, Bool, true, ◌&&◌, ◌==◌, nat_le, nat_lt, if◌then◌else◌, List, [], ◌∷◌, drop, length, Result, Ok, Err, ℤ, pos, negsuc, ◌+ℤ◌, ◌-ℤ◌, ◌*ℤ◌, ◌≤ℤ◌, int_le, int_lt, unsigned_abs, unwrap_or, slice_index, IsTrue}
+use Rattle.std.specs.List.{list_all, find, range_with_len}
 use Rattle.std.specs.Char.{is_ascii_digit}
 use Rattle.std.specs.Ordering.{nat_cmp, int_cmp, ordering_then}
 use Rattle.std.specs.declared.cmp.Ordering.{Ordering}
@@ -103,10 +103,27 @@ pub record IsDayOf (day : ℤ) (year place : ℕ) : Type 0 where
   pub has : has_day year place ≡ true
   pub number : day ≡ day_number year place
 
--- the text of a moment
+-- the text of a moment, by a year and a place in it
 abbrev pub IsTextOf : Epoch → List ℕ → Type 0
 IsTextOf Never text = text ≡ time_text 0 0 0
 IsTextOf (At day second) text = (year : ℕ) × (place : ℕ) × (1951 ≤ year) × (year ≤ 2050) × IsDayOf day year place × (text ≡ time_text (year % 100) place second)
+
+-- a day lies in a year: from its 1 January on, and before that of the next
+abbrev pub lies_in : ℤ → ℕ → Bool
+lies_in day year = int_le (day_number year 1) day && int_lt day (day_number (year + 1) 1)
+
+-- the year of a day, of the hundred from 1951 on
+unfoldable pub calendar_year : ℤ → ℕ
+calendar_year day = unwrap_or (find (lies_in day) (range_with_len 1951 100)) 0
+
+-- its place in that year, from 1
+abbrev pub place_in_year : ℤ → ℕ
+place_in_year day = unsigned_abs (day -ℤ day_number (calendar_year day) 1) + 1
+
+-- the text of a moment; `IsTextOf` holds of it and of no other (`proofs/Printed.antt`)
+abbrev pub epoch_text : Epoch → List ℕ
+epoch_text Never = time_text 0 0 0
+epoch_text (At day second) = time_text (calendar_year day % 100) (place_in_year day) second
 
 -- seconds from 1970-01-01 on
 abbrev pub instant : ℤ → ℕ → ℤ

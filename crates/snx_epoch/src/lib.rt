@@ -4,7 +4,7 @@
 ghost use Rattle.std.specs.Prelude.{◌≡◌, ◌≤◌, ◌<◌, ◌+◌, ◌-◌, ◌*◌, ◌/◌, ◌%◌, ◌≤ℤ◌, ◌<ℤ◌, ◌↔◌, ℕ, ℤ, pos, negsuc, ◌+ℤ◌, ◌-ℤ◌, true, Ok, Err, Some, None, length, IfSome, IfOk, IsSome, is_some, if◌then◌else◌, IsTrue};
 ghost use Rattle.std.specs.List.{list_all};
 ghost use Rattle.jiff_core.specs.Date.{epoch_day};
-ghost use Rattle.snx_epoch.specs.Moments.{is_moment, IsMoment, full_year, day_number, has_day, at_second, moment, has_digit, digit_in, digit_places, is_time, year_in, day_in, second_in, epoch_in, byte_of, time_text, IsDayOf, IsTextOf, instant, IsMomentAt, IsMiddleOf};
+ghost use Rattle.snx_epoch.specs.Moments.{is_moment, IsMoment, full_year, day_number, has_day, at_second, moment, has_digit, digit_in, digit_places, is_time, year_in, day_in, second_in, epoch_in, byte_of, time_text, IsDayOf, IsTextOf, epoch_text, instant, IsMomentAt, IsMiddleOf};
 
 use blanks::{is_all_blank, trim_front};
 use jiff_core::civil::Date;
@@ -273,7 +273,8 @@ fn year_number(year: i16) -> u32
 fn text_of(day: i32, second: u32) -> [u8; 12]
     requires low { negsuc 6939 ≤ℤ day }
     requires high { day ≤ℤ pos 29584 }
-    ensures { IsTextOf (Epoch.At day second) result }
+    ensures text { result ≡ epoch_text (Epoch.At day second) }
+    ensures calendar { IsTextOf (Epoch.At day second) result }
 {
     let date = date_of(day);
     let year = year_number(date.year);
@@ -284,7 +285,8 @@ fn text_of(day: i32, second: u32) -> [u8; 12]
 /// The twelve bytes `YY:DDD:SSSSS` of a moment in the range of `Epoch::at`. `read_epoch` gives the moment back.
 pub fn print_epoch(e: &Epoch) -> [u8; 12]
     requires { IsMoment e.now }
-    ensures text { IsTextOf e.now result }
+    ensures text { result ≡ epoch_text e.now }
+    ensures calendar { IsTextOf e.now result }
     ensures read_back { epoch_in result ≡ Ok e.now }
 {
     match *e {
