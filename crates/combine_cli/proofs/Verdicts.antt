@@ -10,13 +10,15 @@ use Rattle.param_ids.specs.Tables.{standard_scales}
 use Rattle.snx_blocks.specs.Documents.{PlainDoc, IsDocument}
 use Rattle.neq_stack.specs.Neqs.{PlainNeq}
 use Rattle.recover_neq.specs.Recovery.{IsRecovered}
+use Rattle.recover_neq.specs.declared.RecoverFault.{RecoverFault}
+use Rattle.recover_neq.specs.declared.RecoverError.TheVariants as recovery
 use Rattle.stack_rules.specs.Rules.{IsAnswer}
 use Rattle.stack_rules.specs.declared.StackError.{StackError}
 use Rattle.stack_rules.specs.declared.StackError.TheVariants as causes
 use Rattle.stack_rules.proofs.Alone.{answer_is_one}
 use Rattle.combine_cli.specs.Refusals.{status_of, refusal_of_recovery, refusal_of_rules}
 use Rattle.combine_cli.specs.Verdict.{FileNames, AreSolve, Outcome, ReadsWords, ReadsFile, ReadsText, Recovers, Solves, IsVerdict, outcome_of, stack_in, file_limit}
-use Rattle.combine_cli.specs.Headline.{IsCertifiedRun}
+use Rattle.combine_cli.specs.Headline.{IsCertifiedReport, IsCertifiedRun}
 use Rattle.combine_cli.specs.Plan.{IfTold, IsTextVerdict, IsPlanned}
 use Rattle.combine_cli.specs.declared.refusal.Refusal.{Refusal}
 use Rattle.combine_cli.specs.declared.refusal.Refusal.TheVariants.{NoFile, TooLong, Line, Memory}
@@ -159,3 +161,36 @@ pub told_cause : (refusal : Refusal) (neq : PlainNeq) (cause : StackError) → (
     → refusal ≡ refusal_of_rules neq.names cause → IfTold (λ r. (cause : StackError) × IsAnswer (stack_in neq) (Err cause) × (r ≡ refusal_of_rules neq.names cause)) refusal
 told_cause refusal neq cause (inr answer) e = λ a b. (cause, answer, e)
 told_cause refusal neq cause (inl memory) e = λ a b. let f : refusal ≡ Memory = e ∙ ap (refusal_of_rules neq.names) memory in absurd (a (ap status_of f))
+
+-- a cause of the recovery, told as its refusal
+pub recovery_told : (name from : List ℕ) (doc : PlainDoc) (fault : RecoverFault) (refusal : Refusal)
+    → (recovery.Fault fault ≡ recovery.Memory) ⊎ ((f : RecoverFault) × (recovery.Fault fault ≡ recovery.Fault f) × IsRecovered doc standard_scales (Err f))
+    → name ≡ from → refusal ≡ refusal_of_recovery name fault → Recovers from doc (Err refusal)
+recovery_told name from doc fault refusal (inl e) same told = absurd (cc)
+recovery_told name from doc fault refusal (inr h) same told =
+    let e = h.1 in
+    let f : h.0 ≡ fault = cc in
+    (fault, subst (λ f. IsRecovered doc standard_scales (Err f)) f h.2, told ∙ ap (λ n. refusal_of_recovery n fault) same)
+
+-- ---- what is planned
+module _ (words : List (List ℕ)) (files : List ℕ → Option File) (names : FileNames) (text report : List ℕ) (outputs : List NamedText) (solve : AreSolve words names)
+    (certified : IsCertifiedReport text report) (outputs_are : outputs ≡ record { name = names.to; text = report } ∷ []) where
+  planned_by : (file : Option File) → files names.from ≡ file → ReadsFile names.from file (Ok text) → IsPlanned words files outputs
+  planned_by None e h = absurd (cc)
+  planned_by (Some file) e (inl h) =
+      let same = h.1 in
+      let bytes : text ≡ file.bytes = cc in
+      record {
+        names = names;
+        solve = solve;
+        input = file;
+        read = e;
+        short = h.0;
+        report = report;
+        certified = subst (λ t. IsCertifiedReport t report) bytes certified;
+        outputs_are = outputs_are;
+      }
+  planned_by (Some file) e (inr h) = let bad = h.1 in absurd (cc)
+
+  pub planned_of : ReadsFile names.from (files names.from) (Ok text) → IsPlanned words files outputs
+  planned_of h = planned_by (files names.from) refl h

@@ -117,7 +117,8 @@ fn read_text<R: Threads + Sync>(
 
 // The refusal of the file of that name, whose normal equations are not recovered.
 fn refusal_of_recovery(name: Name, fault: &RecoverFault) -> Refusal
-    ensures { result ≡ refusal_of_recovery name fault.now }
+    ensures told { result ≡ refusal_of_recovery name fault.now }
+    ensures no_fault { status_of result ≢ 5 }
 {
     match fault {
         RecoverFault::MissingBlock {
@@ -179,7 +180,8 @@ fn name_at(names: &Names, k: usize) -> ParamId
 
 // The refusal of a stack of these names for a cause of the rules.
 fn refusal_of_rules(names: &Names, cause: StackError) -> Refusal
-    ensures { result ≡ refusal_of_rules names.now cause }
+    ensures told { result ≡ refusal_of_rules names.now cause }
+    ensures no_fault { status_of result ≢ 5 }
 {
     let place = Scope::Stack;
     match cause {
@@ -230,7 +232,10 @@ fn report_of<R: Threads + Sync>(
         &neq.scales,
         1,
     ) {
-        Ok(solved) => Ok(report(alloc, &neq.names, &neq.units, &solved)?),
+        Ok(solved) => match report(alloc, &neq.names, &neq.units, &solved) {
+            Ok(text) => Ok(text),
+            Err(_) => Err(Refusal::Memory),
+        },
         Err(cause) => Err(refusal_of_rules(&neq.names, cause)),
     }
 }

@@ -66,7 +66,9 @@ fn bounds_lines(
 {
     let mut text = Vec::new(alloc);
     for k in 0..names.len() {
-        let line = bounds_line(alloc, k + 1, names.at(k), &units[k], &numbers[k])?;
+        let unit = units[k];
+        let printed = numbers[k];
+        let line = bounds_line(alloc, k + 1, names.at(k), &unit, &printed)?;
         text.extend_from_slice(&line)?;
     }
     Ok(text)
