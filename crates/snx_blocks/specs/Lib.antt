@@ -1,3 +1,4 @@
 pub mod Sections
 pub mod Documents
+pub mod Parts
 pub mod Views

@@ -1,5 +1,9 @@
 //! What a text says.
 
+ghost use Rattle.std.specs.Prelude.{◌≡◌};
+ghost use Rattle.snx_blocks.specs.Documents.{empty_doc};
+ghost use Rattle.snx_blocks.specs.Views.{doc_view};
+
 use snx_matrices::{Cell, Content};
 use snx_rows::Row;
 use snx_sites::{EpochRow, SiteRow};
@@ -32,4 +36,22 @@ pub struct Doc {
     pub sites: Option<Vec<SiteRow>>,
     /// SOLUTION/EPOCHS.
     pub epochs: Option<Vec<EpochRow>>,
+}
+
+impl Doc {
+    /// What a text without any of these blocks says.
+    pub(crate) fn empty() -> Doc
+        ensures { doc_view result ≡ empty_doc }
+    {
+        Doc {
+            estimates: None,
+            apriori: None,
+            vector: None,
+            estimate_matrix: None,
+            apriori_matrix: None,
+            normal_matrix: None,
+            sites: None,
+            epochs: None,
+        }
+    }
 }

@@ -1,6 +1,6 @@
 -- The elements that the lines of a matrix give: SOLUTION/MATRIX_ESTIMATE, SOLUTION/MATRIX_APRIORI and
 -- SOLUTION/NORMAL_EQUATION_MATRIX (SINEX 2.02 format description). Rows and columns are called by the indices of a block of rows.
-use Rattle.std.specs.Prelude.{◌≡◌, ◌≢◌, ◌<◌, ◌+◌, ◌*◌, ◌++◌, ◌∷◌, ◌==◌, ℕ, pos, nat_le, if◌then◌else◌, List, [], length, Bool, true, Option, Some, None, Result, Ok, Err, All, slice_get, codes}
+use Rattle.std.specs.Prelude.{◌≡◌, ◌≢◌, ◌<◌, ◌+◌, ◌*◌, ◌++◌, ◌∷◌, ◌==◌, ℕ, pos, nat_le, if◌then◌else◌, List, [], length, Bool, Option, Some, None, Result, Ok, Err, All, slice_get, codes}
 use Rattle.std.specs.Ordering.{int_eq}
 use Rattle.std.specs.List.{Any, position_from}
 use Rattle.std.specs.Option.{ok_or, option_and_then}
@@ -18,6 +18,8 @@ use Rattle.snx_matrices.specs.declared.elements.Triangle.{Triangle}
 use Rattle.snx_matrices.specs.declared.elements.Triangle.TheVariants.{Lower, Upper}
 use Rattle.snx_matrices.specs.declared.elements.Content.{Content}
 use Rattle.snx_matrices.specs.declared.elements.Content.TheVariants.{Cova, Corr, Info}
+use Rattle.snx_matrices.specs.declared.elements.Called.{Called}
+use Rattle.snx_matrices.specs.declared.elements.Pair.{Pair}
 use Rattle.snx_matrices.specs.declared.elements.Cell.{Cell}
 use Rattle.snx_matrices.specs.declared.elements.Heading.{Heading}
 
@@ -54,11 +56,6 @@ solution_heading text =
 abbrev pub place_of : List Row → ℕ → Option ℕ
 place_of rows index = position_from (λ (row : Row). row.index == index) 0 rows
 
--- a row that a line calls by its index
-pub record Called : Type 0 where
-  pub index : ℕ
-  pub place : ℕ
-
 -- the row of this index, and the row whose index a text writes
 abbrev pub called : List Row → ℕ → Option Called
 called rows index = option_and_then (λ place. Some (record { index = index; place = place })) (place_of rows index)
@@ -67,10 +64,6 @@ abbrev pub called_by : List Row → List ℕ → Option Called
 called_by rows text = option_and_then (called rows) (index_of text)
 
 -- the two rows that a line calls: the row of its elements in columns 2 to 6, and the column of its first value in columns 8 to 12
-pub record Pair : Type 0 where
-  pub row : Called
-  pub column : Called
-
 abbrev pub IsPairOn : List Row → List ℕ → Result Pair Cause → Type 0
 IsPairOn rows text =
     Then (λ r. r ≡ ok_or (called_by rows (columns text 2 6)) causes.Index) (λ row.
@@ -121,9 +114,12 @@ abbrev pub IsValueTaken : Triangle → List Row → List ℕ → Pair → List C
 IsValueTaken triangle rows text pair before k = Then (IsGiven (value_columns text k)) (WithValue triangle rows pair.row (pair.column.index + k) before)
 
 -- the elements so far and those of a line, its values from the left, or the first cause for which it is bad
+abbrev pub AreValuesTaken : Triangle → List Row → List Cell → List ℕ → Result (List Cell) Cause → Type 0
+AreValuesTaken triangle rows before text = Then (IsPairOn rows text) (λ pair. Through (IsValueTaken triangle rows text pair) before (0 ∷ 1 ∷ 2 ∷ []))
+
+-- the cause is put at the line's number
 abbrev pub IsLineTaken : Triangle → List Row → List Cell → PlainLine → Result (List Cell) LineFault → Type 0
-IsLineTaken triangle rows before line =
-    Renamed (fault_at line.number) (Then (IsPairOn rows line.text) (λ pair. Through (IsValueTaken triangle rows line.text pair) before (0 ∷ 1 ∷ 2 ∷ [])))
+IsLineTaken triangle rows before line = Renamed (fault_at line.number) (AreValuesTaken triangle rows before line.text)
 
 -- the elements of a matrix with these lines of data, or its first bad line. Elements that are not given are zero
 abbrev pub AreElements : Triangle → List Row → List PlainLine → Result (List Cell) LineFault → Type 0

@@ -46,6 +46,24 @@ pub struct Heading {
     pub content: Content,
 }
 
+/// A row that a line calls by its index.
+#[derive(Clone, Copy)]
+pub(crate) struct Called {
+    /// Its index.
+    pub index: u32,
+    /// Its place, from 0.
+    pub place: u32,
+}
+
+/// The two rows that a line calls.
+#[derive(Clone, Copy)]
+pub(crate) struct Pair {
+    /// The row of its elements.
+    pub row: Called,
+    /// The column of its first value.
+    pub column: Called,
+}
+
 /// The triangle that a word names.
 fn triangle_of(text: &[u8]) -> Option<Triangle>
     ensures { result ≡ triangle_of text.now }

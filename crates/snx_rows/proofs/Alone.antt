@@ -1,7 +1,7 @@
--- A line is one row at most or has one fault, and never both.
-use Rattle.std.proofs.Common.{◌≡◌, inl, inr, ◌∙◌, ◌∷◌, ℕ, List, [], Option, Some, IsSome, IsNone, is_some, true, false, Result, Ok, Err, sym, ap, refl}
+-- A line is one row at most or has one fault, and never both; so has a block of rows one reading.
+use Rattle.std.proofs.Common.{arith, ◌≡◌, inl, inr, ◌∙◌, ◌∷◌, ℕ, List, [], Option, Some, IsSome, IsNone, is_some, true, false, Result, Ok, Err, sym, ap, refl}
 use Rattle.stated_order.specs.Steps.{IsOne}
-use Rattle.stated_order.proofs.StepLaws.{then_is_one, renamed_is_one}
+use Rattle.stated_order.proofs.StepLaws.{then_is_one, renamed_is_one, in_turn_is_one}
 use Rattle.snx_epoch.specs.Moments.{epoch_in}
 use Rattle.snx_epoch.specs.declared.Epoch.{Epoch}
 use Rattle.snx_epoch.specs.declared.EpochFault.{EpochFault}
@@ -14,8 +14,10 @@ use Rattle.decimal_e.specs.Decimals.{Decimal}
 use Rattle.decimal_e.specs.Answers.{IsAnswer}
 use Rattle.decimal_e.proofs.Outcomes.{one_answer_of}
 use Rattle.snx_rows.specs.Rows.{name_cause, fault_at, IsNumber, IsSized, IsDeviation, IsDeviationOn, IsRead, IsRow}
+use Rattle.snx_rows.specs.Blocks.{IsNew, HasRoom, IsNextRow, OneBlock}
 use Rattle.snx_rows.specs.declared.causes.Cause.TheVariants as causes
 use Rattle.snx_rows.specs.declared.rows.Shape.{Shape}
+use Rattle.snx_rows.specs.declared.rows.Row.{Row}
 use Rattle.snx_rows.specs.declared.rows.Shape.TheVariants.{Value, Vector}
 
 -- ---- a name
@@ -92,7 +94,7 @@ module _ (kind code point soln epoch : List ℕ) where
   named_is_one (Err (names.Epoch f)) (Err (names.Epoch g)) p q = ap (λ x. Err (names.Epoch x)) (fault_same (epoch_in epoch) f g p.4 q.4)
 
 -- ---- the other fields
-number_is_one : (text : List ℕ) → IsOne (IsNumber text)
+pub number_is_one : (text : List ℕ) → IsOne (IsNumber text)
 number_is_one text = renamed_is_one (λ fault. causes.Number fault) (IsAnswer text) (one_answer_of text)
 
 sized_is_one : (shape : Shape) (value : Decimal) → IsOne (IsSized shape value)
@@ -122,3 +124,24 @@ read_is_one shape line =
 
 pub row_is_one : (shape : Shape) (line : PlainLine) → IsOne (IsRow shape line)
 row_is_one shape line = renamed_is_one (fault_at line.number) (IsRead shape line) (read_is_one shape line)
+
+-- ---- the rows of a block
+new_is_one : (before : List Row) (row : Row) → IsOne (IsNew before row)
+new_is_one before row (Ok x) (Ok y) a b = ap Ok (a.0 ∙ sym b.0)
+new_is_one before row (Ok x) (Err d) a b = absurd (a.1 b.1)
+new_is_one before row (Err c) (Ok y) a b = absurd (b.1 a.1)
+new_is_one before row (Err c) (Err d) a b = ap Err (a.0 ∙ sym b.0)
+
+room_is_one : (before : List Row) (row : Row) → IsOne (HasRoom before row)
+room_is_one before row (Ok x) (Ok y) a b = ap Ok (a.0 ∙ sym b.0)
+room_is_one before row (Ok x) (Err d) a b = absurd (omega (arith, a.1, b.1))
+room_is_one before row (Err c) (Ok y) a b = absurd (omega (arith, a.1, b.1))
+room_is_one before row (Err c) (Err d) a b = ap Err (a.0 ∙ sym b.0)
+
+next_row_is_one : (shape : Shape) (before : List Row) (line : PlainLine) → IsOne (IsNextRow shape before line)
+next_row_is_one shape before line =
+    renamed_is_one (fault_at line.number) _
+    (then_is_one _ _ (read_is_one shape line) (λ row of_line. then_is_one _ _ (new_is_one before row) (λ same of_row. room_is_one before same)))
+
+pub rows_are_one : OneBlock
+rows_are_one shape lines = in_turn_is_one (IsNextRow shape) (next_row_is_one shape) [] lines

@@ -1,3 +1,5 @@
 pub mod Digits
 pub mod Chain
 pub mod Alone
+pub mod Loops
+pub mod Sound

@@ -1,7 +1,7 @@
 //! Why a line is bad.
 
 ghost use Rattle.std.specs.Prelude.{◌≡◌};
-ghost use Rattle.snx_rows.specs.declared.causes.DocError.TheVariants.{Memory};
+ghost use Rattle.snx_rows.specs.declared.causes.DocError.TheVariants.{Line, Memory};
 
 use decimal_e::DecFault;
 use snx_epoch::EpochFault;
@@ -63,6 +63,14 @@ pub enum DocError {
     /// Want of memory.
     #[error("out of memory")]
     Memory,
+}
+
+impl From<LineFault> for DocError {
+    ghost from_gives = { λ fault r. r ≡ Line fault };
+
+    fn from(fault: LineFault) -> DocError {
+        DocError::Line(fault)
+    }
 }
 
 impl From<AllocError> for DocError {

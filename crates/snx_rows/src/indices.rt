@@ -32,7 +32,7 @@ fn number_of(digits: &[u8]) -> u32
 }
 
 /// The index that a text without blanks at its ends writes, if it does.
-fn index_of(text: &[u8]) -> Option<u32>
+pub fn index_of(text: &[u8]) -> Option<u32>
     ensures { result ≡ index_of text.now }
 {
     if text.len() > MOST_DIGITS || !is_digits(text) {

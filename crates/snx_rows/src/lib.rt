@@ -7,10 +7,11 @@ mod indices;
 mod rows;
 mod steps;
 
-pub use blocks::read_rows;
+pub use blocks::{one_block, read_rows};
 pub use causes::{Cause, DocError, LineFault};
-pub use indices::read_index;
+pub use indices::{index_of, read_index};
 pub use rows::{Row, Shape, one_row, read_row};
+pub use steps::number_in;
 
 #[cfg(test)]
 mod tests;

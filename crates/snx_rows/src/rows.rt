@@ -36,7 +36,7 @@ pub struct Row {
 }
 
 /// What a line says as a row, or the first cause for which it says nothing.
-fn row_on(shape: Shape, line: &Line) -> Result<Row, Cause>
+pub(crate) fn row_on(shape: Shape, line: &Line) -> Result<Row, Cause>
     ensures { IsRead shape (line_view line.now) result }
 {
     let index = index_on(line)?;

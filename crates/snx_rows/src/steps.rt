@@ -51,7 +51,11 @@ pub(crate) fn unit_on(line: &Line) -> Result<[u8; 4], Cause>
 }
 
 /// The number that a text writes.
-fn number_in(text: &[u8]) -> Result<Dec, Cause>
+///
+/// # Errors
+///
+/// Number with what `read_dec` finds wrong.
+pub fn number_in(text: &[u8]) -> Result<Dec, Cause>
     ensures { IsNumber text.now result }
 {
     match read_dec(text) {

@@ -2,6 +2,7 @@
 #![tactic(auto)]
 
 mod epochs;
+mod fields;
 mod sites;
 
 pub use epochs::{EpochRow, one_epochs, read_epochs};
