@@ -1,6 +1,6 @@
 -- The numbers of a document's normal equations, by the names of their rows: SOLUTION/APRIORI,
 -- SOLUTION/NORMAL_EQUATION_VECTOR and SOLUTION/NORMAL_EQUATION_MATRIX (SINEX 2.02 format description).
-use Rattle.std.specs.Prelude.{ℕ, pos, Bool, ◌||◌, ◌&&◌, ◌==◌, List, [], ◌∷◌, Option, Some, None, Result, Ok, Err, codes}
+use Rattle.std.specs.Prelude.{ℕ, pos, Bool, ◌||◌, ◌&&◌, ◌==◌, List, Option, Some, None, Result, Ok, Err, codes}
 use Rattle.std.specs.List.{find, position_or_len}
 use Rattle.std.specs.Net.Reader.{map_or}
 use Rattle.decimal_e.specs.Decimals.{Decimal}

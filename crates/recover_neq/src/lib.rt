@@ -6,16 +6,30 @@ ghost use Rattle.whole_numbers.specs.Lists.{at};
 ghost use Rattle.equil.specs.Tables.{table_of};
 ghost use Rattle.sys_model.specs.Scaling.{LiesInStack};
 ghost use Rattle.sys_model.specs.Systems.{System};
+ghost use Rattle.snx_rows.specs.Blocks.{AreSound};
+ghost use Rattle.snx_rows.specs.declared.rows.Shape.TheVariants.{Value};
 ghost use Rattle.snx_blocks.specs.Documents.{IsValid};
 ghost use Rattle.snx_blocks.specs.Views.{doc_view};
 ghost use Rattle.neq_stack.specs.Neqs.{IsSound, neq_view};
-ghost use Rattle.recover_neq.specs.Recovery.{IsRecovered};
+ghost use Rattle.recover_neq.specs.Blocks.{Blocks};
+ghost use Rattle.recover_neq.specs.Recovery.{IsRecovered, OneRecovery, matched, filled};
 ghost use Rattle.recover_neq.specs.Exact.{IsExact};
+ghost use Rattle.recover_neq.specs.declared.RecoverError.TheVariants.{Memory, Fault};
+ghost use Rattle.recover_neq.specs.declared.RecoverFault.TheVariants.{MissingBlock};
 
+mod columns;
+mod limits;
+mod making;
+mod naming;
+mod words;
+
+use crate::making::{modest, shown};
+use crate::naming::first_unmatched;
 use neq_stack::Neq;
 use param_ids::{ParamId, Scales};
 use snx_blocks::{Doc, Section};
-use std::alloc::Global;
+use snx_rows::Row;
+use std::alloc::{AllocError, Global};
 use thiserror::Error;
 
 /// Why a document has no normal equations.
@@ -46,6 +60,52 @@ pub enum RecoverError {
     Memory,
 }
 
+impl From<AllocError> for RecoverError {
+    ghost from_gives = { λ _ r. r ≡ Memory };
+
+    fn from(_refusal: AllocError) -> RecoverError {
+        RecoverError::Memory
+    }
+}
+
+impl From<RecoverFault> for RecoverError {
+    ghost from_gives = { λ fault r. r ≡ Fault fault };
+
+    fn from(fault: RecoverFault) -> RecoverError {
+        RecoverError::Fault(fault)
+    }
+}
+
+/// Each row of the right side has an a priori row of its name.
+fn all_matched(alloc: Global, apriori: &[Row], vector: &[Row]) -> Result<(), RecoverError>
+    requires { AreSound Value apriori.now }
+    ensures ok { IfOk result (λ _. (blocks : Blocks) → blocks.apriori ≡ apriori.now → blocks.vector ≡ vector.now → Ok tt ≡ matched blocks) }
+    ensures refused { IfErr result (λ cause. (cause ≡ Memory) ⊎ ((fault : RecoverFault) × (cause ≡ Fault fault) × ((blocks : Blocks) → blocks.apriori ≡ apriori.now → blocks.vector ≡ vector.now → Err fault ≡ matched blocks))) }
+{
+    match first_unmatched(alloc, apriori, vector)? {
+        Some(id) => Err(RecoverError::Fault(RecoverFault::Unmatched { id })),
+        None => Ok(()),
+    }
+}
+
+/// The right side has a row.
+fn some_row(vector: &[Row]) -> Result<(), RecoverFault>
+    ensures { (blocks : Blocks) → blocks.vector ≡ vector.now → result ≡ filled blocks }
+{
+    if vector.is_empty() {
+        Err(RecoverFault::Empty)
+    } else {
+        Ok(())
+    }
+}
+
+/// The document lacks this block.
+fn missing(block: Section) -> RecoverError
+    ensures { result ≡ Fault (MissingBlock block) }
+{
+    RecoverError::Fault(RecoverFault::MissingBlock { block })
+}
+
 /// The normal equations of a document, in intervals by name, the a priori values being the document's.
 ///
 /// # Errors
@@ -64,5 +124,23 @@ pub fn recover<const N: usize>(
     ensures exact { IfOk result (λ neq. (S : System) → IsExact (doc_view doc.now) neq.names S → LiesInStack (length neq.names) (table_of neq.table neq.right.items) (at neq.scales.items) S) }
     ensures exact_exists { IfOk result (λ neq. (S : System) × IsExact (doc_view doc.now) neq.names S) }
 {
-    Err(RecoverError::Memory)
+    let Some(apriori) = &doc.apriori else {
+        return Err(missing(Section::Apriori));
+    };
+    let Some(vector) = &doc.vector else {
+        return Err(missing(Section::Vector));
+    };
+    let Some(matrix) = &doc.normal_matrix else {
+        return Err(missing(Section::NormalMatrix));
+    };
+    all_matched(alloc, apriori, vector)?;
+    some_row(vector)?;
+    let neq = shown(alloc, apriori, vector, &matrix.cells, scales)?;
+    modest(&neq)?;
+    Ok(neq)
 }
+
+/// A document has one recovery at most: normal equations, or a first cause, and never both.
+pub fn one_recovery()
+    ensures { OneRecovery }
+{}

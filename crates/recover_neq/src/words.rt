@@ -1,0 +1,118 @@
+//! The intervals of a matrix and of a right side.
+
+ghost use Rattle.std.specs.Prelude.{◌≡◌, ◌≤◌, ◌<◌, ℕ, ℤ, pos, negsuc, ◌≤ℤ◌, ◌-ℤ◌, All, IfOk, length, slice_index, slice_index_or};
+ghost use Rattle.whole_numbers.specs.Lists.{at};
+ghost use Rattle.decimal_e.specs.Scales.{decimal_interval};
+ghost use Rattle.sym_blocks.specs.Tables.{before, zero_interval};
+ghost use Rattle.param_ids.specs.Tables.{IsScale};
+ghost use Rattle.snx_matrices.specs.Elements.{IsPlaced};
+ghost use Rattle.recover_neq.specs.Shown.{StandsFor, ShowsEntries, right_at};
+
+use crate::columns::value_or_zero;
+use decimal_e::{Dec, interval_at};
+use interval_word::Iv;
+use snx_matrices::Cell;
+use snx_rows::Row;
+use std::alloc::{AllocError, Global};
+use sym_blocks::SymBlock;
+
+/// A number past every bound.
+const FAR: i128 = 100_000_000_000_000_000_000_000_000_000_000_000;
+
+/// The interval of a decimal times 10^k, or one that is too great, as it is.
+fn shown_at(d: &Dec, k: i32) -> Iv
+    requires low { negsuc 99 ≤ℤ k }
+    requires high { k ≤ℤ pos 100 }
+    ensures { StandsFor (decimal_interval d.now k) result }
+{
+    match interval_at(d, k) {
+        Some(word) => word,
+        None => Iv::point(FAR),
+    }
+}
+
+/// A scale exponent.
+fn exponent_at(exponents: &[i32], row: usize) -> i32
+    requires within { row < length exponents.now }
+    requires scales { All IsScale exponents.now }
+    ensures value { result ≡ at exponents.now row }
+    ensures range { IsScale result }
+{
+    exponents[row]
+}
+
+/// The power of ten of a row: 18 less its scale exponent.
+fn row_scale(exponents: &[i32], row: usize) -> i32
+    requires within { row < length exponents.now }
+    requires scales { All IsScale exponents.now }
+    ensures value { result ≡ pos 18 -ℤ at exponents.now row }
+    ensures low { pos 12 ≤ℤ result }
+    ensures high { result ≤ℤ pos 22 }
+{
+    18 - exponent_at(exponents, row)
+}
+
+/// The power of ten of a row and a column.
+fn pair_scale(exponents: &[i32], row: usize, col: usize) -> i32
+    requires row { row < length exponents.now }
+    requires col { col < length exponents.now }
+    requires scales { All IsScale exponents.now }
+    ensures value { result ≡ pos 18 -ℤ at exponents.now row -ℤ at exponents.now col }
+    ensures low { pos 6 ≤ℤ result }
+    ensures high { result ≤ℤ pos 26 }
+{
+    row_scale(exponents, row) - exponent_at(exponents, col)
+}
+
+/// The place of the name of a row.
+fn rank_at(ranks: &[usize], row: u32) -> usize
+    requires { row < length ranks.now }
+    ensures { result ≡ slice_index ranks.now row }
+{
+    ranks[row as usize]
+}
+
+/// The intervals of the elements, by the places of their names.
+pub fn table_of<const N: usize>(
+    alloc: Global,
+    cells: &[Cell],
+    ranks: &[usize],
+    exponents: &[i32],
+) -> Result<SymBlock<N>, AllocError>
+    requires few { length exponents.now ≤ 1000 }
+    requires scales { All IsScale exponents.now }
+    requires ranks { All (λ rank. rank < length exponents.now) ranks.now }
+    requires cells { All (IsPlaced (length ranks.now)) cells.now }
+    ensures size { IfOk result (λ table. table.size ≡ length exponents.now) }
+    ensures whole { IfOk result (λ table. length table.words ≡ before table.size) }
+    ensures shown { IfOk result (ShowsEntries cells.now ranks.now exponents.now) }
+{
+    let mut table = SymBlock::<N>::zero(alloc, exponents.len())?;
+    for place in (0..cells.len()).rev() {
+        let cell = cells[place];
+        let row = rank_at(ranks, cell.row);
+        let col = rank_at(ranks, cell.col);
+        let word = shown_at(&cell.value, pair_scale(exponents, row, col));
+        table.set(row, col, word);
+    }
+    Ok(table)
+}
+
+/// The intervals of the values of rows.
+pub fn rights_of(
+    alloc: Global,
+    rows: &[Option<Row>],
+    exponents: &[i32],
+) -> Result<Vec<Iv>, AllocError>
+    requires lengths { length rows.now ≡ length exponents.now }
+    requires scales { All IsScale exponents.now }
+    ensures len { IfOk result (λ right. length right.items ≡ length rows.now) }
+    ensures shown { IfOk result (λ right. (i : ℕ) → i < length rows.now → StandsFor (right_at rows.now exponents.now i) (slice_index_or right.items i zero_interval)) }
+{
+    let mut right = Vec::new(alloc);
+    for place in 0..rows.len() {
+        let value = value_or_zero(&rows[place]);
+        right.push(shown_at(&value, row_scale(exponents, place)))?;
+    }
+    Ok(right)
+}
