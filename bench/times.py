@@ -90,7 +90,7 @@ def solve(program, solver, yardstick, sizes, folder):
         mine["print"] = mine["solve"] - sum(mine[step] for step in ("tables", "pilot", "vector", "check"))
         loops = sum(theirs.values())
         print(f"{rows} rows, in milliseconds:")
-        print("  " + ", ".join(f"{step} {mine[step]:.0f}" for step in ("read", "tables", "factor", "columns", "vector", "check", "print")))
+        print("  " + ", ".join(f"{step} {mine[step]:.0f}" for step in ("read", "recover", "tables", "factor", "columns", "vector", "check", "print")))
         ratio = f"{min(wholes) / loops:.2f}" if loops >= 10 else "too short to tell"
         print(f"  the whole program {min(wholes):.0f}; the yardstick's loops {loops:.0f}; ratio {ratio}; memory {memory:.0f} MB")
 

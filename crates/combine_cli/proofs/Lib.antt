@@ -1,5 +1,5 @@
 pub mod RunLaws
+pub mod Sound
 pub mod Texts
-pub mod Unknowns
 pub mod Verdicts
 pub mod Words

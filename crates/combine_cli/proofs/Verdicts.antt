@@ -1,23 +1,27 @@
 -- A run has one verdict, and what gives it.
 use Rattle.std.proofs.Common.{◌≡◌, ◌≢◌, ◌⊎◌, ◌∷◌, ◌<◌, ◌≤◌, ℕ, Bool, true, false, List, [], length, nat_lt, if◌then◌else◌, Option, Some, None, Result, Ok, Err, IfErr, codes, refl, sym, ◌∙◌, ap, subst, inl, inr, arith}
 use Rattle.stated_order.specs.Steps.{IsOne, Then}
-use Rattle.stated_order.proofs.StepLaws.{then_is_one}
+use Rattle.stated_order.proofs.StepLaws.{then_is_one, renamed_is_one, then_gives, then_stops}
 use Rattle.desk_io.specs.Content.{File}
 use Rattle.desk_io.specs.Outputs.{NamedText}
 use Rattle.desk_io.specs.Whole.{reading}
 use Rattle.desk_io.specs.declared.whole.ReadError.TheVariants as errors
-use Rattle.plain_rows.specs.Plain.{PlainFile, IsPlainForm}
-use Rattle.plain_rows.proofs.Readings.{one_plain}
-use Rattle.solve_plain.specs.Solving.{Numbers, IsAnswer}
-use Rattle.solve_plain.specs.declared.SolveError.{SolveError}
-use Rattle.solve_plain.proofs.Alone.{answer_is_one}
-use Rattle.solve_plain.specs.declared.SolveError.TheVariants as causes
-use Rattle.combine_cli.specs.Refusals.{status_of, refusal_of}
-use Rattle.combine_cli.specs.Verdict.{FileNames, AreSolve, Outcome, ReadsWords, ReadsFile, ReadsText, Solves, IsVerdict, outcome_of, file_limit}
+use Rattle.param_ids.specs.Tables.{standard_scales}
+use Rattle.snx_blocks.specs.Documents.{PlainDoc, IsDocument}
+use Rattle.neq_stack.specs.Neqs.{PlainNeq}
+use Rattle.recover_neq.specs.Recovery.{IsRecovered}
+use Rattle.recover_neq.specs.declared.RecoverFault.{RecoverFault}
+use Rattle.recover_neq.specs.declared.RecoverError.TheVariants as recovery
+use Rattle.stack_rules.specs.Rules.{IsAnswer}
+use Rattle.stack_rules.specs.declared.StackError.{StackError}
+use Rattle.stack_rules.specs.declared.StackError.TheVariants as causes
+use Rattle.stack_rules.proofs.Alone.{answer_is_one}
+use Rattle.combine_cli.specs.Refusals.{status_of, refusal_of_recovery, refusal_of_rules}
+use Rattle.combine_cli.specs.Verdict.{FileNames, AreSolve, Outcome, ReadsWords, ReadsFile, ReadsText, Recovers, Solves, IsVerdict, outcome_of, stack_in, file_limit}
 use Rattle.combine_cli.specs.Headline.{IsCertifiedReport, IsCertifiedRun}
 use Rattle.combine_cli.specs.Plan.{IfTold, IsTextVerdict, IsPlanned}
 use Rattle.combine_cli.specs.declared.refusal.Refusal.{Refusal}
-use Rattle.combine_cli.specs.declared.refusal.Refusal.TheVariants.{NoFile, TooLong, Memory}
+use Rattle.combine_cli.specs.declared.refusal.Refusal.TheVariants.{NoFile, TooLong, Line, Memory}
 
 -- ---- each step has one result
 
@@ -42,21 +46,32 @@ file_is_one name (Some file) one other (inl h) (inr k) = let a = h.0 in let b = 
 file_is_one name (Some file) one other (inr h) (inl k) = let a = h.0 in let b = k.0 in absurd (omega arith)
 file_is_one name (Some file) one other (inr h) (inr k) = h.1 ∙ sym k.1
 
-text_is_one : (name text : List ℕ) → IsOne (ReadsText name text)
-text_is_one name text (Ok a) (Ok b) h k = ap Ok (one_plain text a b h k)
-text_is_one name text (Ok a) (Err d) h k = absurd (k.0 a h)
-text_is_one name text (Err c) (Ok b) h k = absurd (h.0 b k)
-text_is_one name text (Err c) (Err d) h k = ap Err (h.1 ∙ sym k.1)
+document_is_one : (text : List ℕ) → IsOne (IsDocument text)
+document_is_one text = ?
 
-outcome_is_one : (names : FileNames) (plain : PlainFile) → IsOne (Solves names plain)
-outcome_is_one names plain one other h k = h.2 ∙ ap (outcome_of names plain) (answer_is_one plain h.0 k.0 h.1 k.1) ∙ sym k.2
+recovered_is_one : (doc : PlainDoc) → IsOne (IsRecovered doc standard_scales)
+recovered_is_one doc = ?
+
+text_is_one : (name text : List ℕ) → IsOne (ReadsText name text)
+text_is_one name text = renamed_is_one (λ fault. Line name fault) (IsDocument text) (document_is_one text)
+
+recovery_is_one : (name : List ℕ) (doc : PlainDoc) → IsOne (Recovers name doc)
+recovery_is_one name doc = renamed_is_one (refusal_of_recovery name) (IsRecovered doc standard_scales) (recovered_is_one doc)
+
+outcome_is_one : (names : FileNames) (neq : PlainNeq) → IsOne (Solves names neq)
+outcome_is_one names neq one other h k = h.2 ∙ ap (outcome_of names neq) (answer_is_one (stack_in neq) h.0 k.0 h.1 k.1) ∙ sym k.2
+
+text_verdict_is_one : (names : FileNames) (text : List ℕ) → IsOne (IsTextVerdict names text)
+text_verdict_is_one names text =
+    then_is_one (ReadsText names.from text) (λ doc. Then (Recovers names.from doc) (Solves names)) (text_is_one names.from text) (λ doc reads.
+    then_is_one (Recovers names.from doc) (Solves names) (recovery_is_one names.from doc) (λ neq recovers. outcome_is_one names neq))
 
 -- so the words and the files have one verdict
 pub one_verdict : (words : List (List ℕ)) (files : List ℕ → Option File) → IsOne (IsVerdict words files)
 one_verdict words files =
     then_is_one (ReadsWords words) (λ names. Then (ReadsFile names.from (files names.from)) (IsTextVerdict names)) (words_are_one words) (λ names solve.
     then_is_one (ReadsFile names.from (files names.from)) (IsTextVerdict names) (file_is_one names.from (files names.from)) (λ text read.
-    then_is_one (ReadsText names.from text) (Solves names) (text_is_one names.from text) (λ plain reads. outcome_is_one names plain)))
+    text_verdict_is_one names text))
 
 -- ---- the verdict, by the step that gives it
 
@@ -72,12 +87,18 @@ pub by_text : (words : List (List ℕ)) (files : List ℕ → Option File) (name
     → ReadsFile names.from (files names.from) (Ok text) → IsTextVerdict names text outcome → IsVerdict words files outcome
 by_text words files names text outcome solve read h = inl (record { gives = names; given = solve; onward = inl (record { gives = text; given = read; onward = h }) })
 
-pub text_refused : (names : FileNames) (text : List ℕ) (refusal : Refusal) → ReadsText names.from text (Err refusal) → IsTextVerdict names text (Err refusal)
-text_refused names text refusal h = inr (record { cause = refusal; refused = h; is_cause = refl })
+module _ (names : FileNames) (text : List ℕ) where
+  pub text_refused : (refusal : Refusal) → ReadsText names.from text (Err refusal) → IsTextVerdict names text (Err refusal)
+  text_refused refusal h = then_stops (ReadsText names.from text) (λ doc. Then (Recovers names.from doc) (Solves names)) refusal h
 
-pub rules_refused : (names : FileNames) (text : List ℕ) (plain : PlainFile) (refusal : Refusal) (cause : SolveError) → IsPlainForm text plain → IsAnswer plain (Err cause)
-    → refusal ≡ refusal_of names.from plain.rows cause → IsTextVerdict names text (Err refusal)
-rules_refused names text plain refusal cause reads h e = inl (record { gives = plain; given = reads; onward = (Err cause, h, ap Err e) })
+  pub by_document : (doc : PlainDoc) (outcome : Outcome) → ReadsText names.from text (Ok doc) → Then (Recovers names.from doc) (Solves names) outcome → IsTextVerdict names text outcome
+  by_document doc outcome reads h = then_gives (ReadsText names.from text) (λ doc. Then (Recovers names.from doc) (Solves names)) doc outcome reads h
+
+  pub recovery_refused : (doc : PlainDoc) (refusal : Refusal) → ReadsText names.from text (Ok doc) → Recovers names.from doc (Err refusal) → IsTextVerdict names text (Err refusal)
+  recovery_refused doc refusal reads h = by_document doc (Err refusal) reads (then_stops (Recovers names.from doc) (Solves names) refusal h)
+
+  pub by_rules : (doc : PlainDoc) (neq : PlainNeq) (outcome : Outcome) → ReadsText names.from text (Ok doc) → Recovers names.from doc (Ok neq) → Solves names neq outcome → IsTextVerdict names text outcome
+  by_rules doc neq outcome reads recovers h = by_document doc outcome reads (then_gives (Recovers names.from doc) (Solves names) neq outcome recovers h)
 
 -- ---- what is planned is the verdict
 
@@ -87,7 +108,7 @@ planned_verdict words files outputs p =
     let report : (text : List ℕ) → Outcome = λ text. Ok (record { name = p.names.to; text = text } ∷ []) in
     by_text words files p.names p.input.bytes (Ok outputs) p.solve
     (subst (λ file. ReadsFile p.names.from file (Ok p.input.bytes)) (sym p.read) (inl (p.short, refl)))
-    (inl (record { gives = c.plain; given = c.reads; onward = (Ok c.numbers, c.answers, ap Ok p.outputs_are ∙ ap report c.tells) }))
+    (by_rules p.names p.input.bytes c.doc c.neq (Ok outputs) c.reads c.recovers (Ok c.numbers, c.answers, ap Ok p.outputs_are ∙ ap report c.tells))
 
 pub planned_run : (words : List (List ℕ)) (old new : List ℕ → Option File) (outputs : List NamedText) (p : IsPlanned words old outputs)
     → new p.names.to ≡ Some (record { bytes = p.report; finished = true }) → IsCertifiedRun words old new
@@ -129,14 +150,47 @@ too_long_read name None e = absurd (cc)
 too_long_read name (Some file) e = long_read name file (nat_lt file_limit (length file.bytes)) refl e
 
 -- what the rules refuse, told as the verdict
-pub rules_told : {T : Type 0} (r : Result T Refusal) (names : FileNames) (text : List ℕ) (plain : PlainFile) → IsPlainForm text plain
-    → IfErr r (IfTold (λ refusal. (cause : SolveError) × IsAnswer plain (Err cause) × (refusal ≡ refusal_of names.from plain.rows cause)))
+pub rules_told : {T : Type 0} (r : Result T Refusal) (names : FileNames) (text : List ℕ) (doc : PlainDoc) (neq : PlainNeq) → ReadsText names.from text (Ok doc) → Recovers names.from doc (Ok neq)
+    → IfErr r (IfTold (λ refusal. (cause : StackError) × IsAnswer (stack_in neq) (Err cause) × (refusal ≡ refusal_of_rules neq.names cause)))
     → IfErr r (IfTold (λ refusal. IsTextVerdict names text (Err refusal)))
-rules_told (Ok x) names text plain reads h = tt
-rules_told (Err refusal) names text plain reads h = λ a b. let k = h a b in rules_refused names text plain refusal k.0 reads k.1 k.2
+rules_told (Ok x) names text doc neq reads recovers h = tt
+rules_told (Err refusal) names text doc neq reads recovers h = λ a b. let k = h a b in by_rules names text doc neq (Err refusal) reads recovers (Err k.0, k.1, ap Err k.2)
 
 -- a cause of the rules other than want of memory, told as its refusal
-pub told_cause : (refusal : Refusal) (from : List ℕ) (p : PlainFile) (cause : SolveError) → (cause ≡ causes.Memory) ⊎ IsAnswer p (Err cause)
-    → IfTold (λ r. r ≡ refusal_of from p.rows cause) refusal → IfTold (λ r. (cause : SolveError) × IsAnswer p (Err cause) × (r ≡ refusal_of from p.rows cause)) refusal
-told_cause refusal from p cause (inr answer) h = λ a b. (cause, answer, h a b)
-told_cause refusal from p cause (inl memory) h = λ a b. let e : refusal ≡ Memory = h a b ∙ ap (refusal_of from p.rows) memory in absurd (a (ap status_of e))
+pub told_cause : (refusal : Refusal) (neq : PlainNeq) (cause : StackError) → (cause ≡ causes.Memory) ⊎ IsAnswer (stack_in neq) (Err cause)
+    → refusal ≡ refusal_of_rules neq.names cause → IfTold (λ r. (cause : StackError) × IsAnswer (stack_in neq) (Err cause) × (r ≡ refusal_of_rules neq.names cause)) refusal
+told_cause refusal neq cause (inr answer) e = λ a b. (cause, answer, e)
+told_cause refusal neq cause (inl memory) e = λ a b. let f : refusal ≡ Memory = e ∙ ap (refusal_of_rules neq.names) memory in absurd (a (ap status_of f))
+
+-- a cause of the recovery, told as its refusal
+pub recovery_told : (name from : List ℕ) (doc : PlainDoc) (fault : RecoverFault) (refusal : Refusal)
+    → (recovery.Fault fault ≡ recovery.Memory) ⊎ ((f : RecoverFault) × (recovery.Fault fault ≡ recovery.Fault f) × IsRecovered doc standard_scales (Err f))
+    → name ≡ from → refusal ≡ refusal_of_recovery name fault → Recovers from doc (Err refusal)
+recovery_told name from doc fault refusal (inl e) same told = absurd (cc)
+recovery_told name from doc fault refusal (inr h) same told =
+    let e = h.1 in
+    let f : h.0 ≡ fault = cc in
+    (fault, subst (λ f. IsRecovered doc standard_scales (Err f)) f h.2, told ∙ ap (λ n. refusal_of_recovery n fault) same)
+
+-- ---- what is planned
+module _ (words : List (List ℕ)) (files : List ℕ → Option File) (names : FileNames) (text report : List ℕ) (outputs : List NamedText) (solve : AreSolve words names)
+    (certified : IsCertifiedReport text report) (outputs_are : outputs ≡ record { name = names.to; text = report } ∷ []) where
+  planned_by : (file : Option File) → files names.from ≡ file → ReadsFile names.from file (Ok text) → IsPlanned words files outputs
+  planned_by None e h = absurd (cc)
+  planned_by (Some file) e (inl h) =
+      let same = h.1 in
+      let bytes : text ≡ file.bytes = cc in
+      record {
+        names = names;
+        solve = solve;
+        input = file;
+        read = e;
+        short = h.0;
+        report = report;
+        certified = subst (λ t. IsCertifiedReport t report) bytes certified;
+        outputs_are = outputs_are;
+      }
+  planned_by (Some file) e (inr h) = let bad = h.1 in absurd (cc)
+
+  pub planned_of : ReadsFile names.from (files names.from) (Ok text) → IsPlanned words files outputs
+  planned_of h = planned_by (files names.from) refl h

@@ -2,15 +2,22 @@
 use Rattle.std.specs.Prelude.{◌≡◌, ◌≢◌, ◌≤◌, ◌∷◌, ℕ, List, [], length, Some, Option, Result, Ok, Err}
 use Rattle.desk_io.specs.Content.{File}
 use Rattle.desk_io.specs.Outputs.{NamedText}
-use Rattle.combine_cli.specs.Refusals.{status_of}
 use Rattle.stated_order.specs.Steps.{Then}
-use Rattle.combine_cli.specs.Verdict.{Outcome, FileNames, AreSolve, ReadsText, Solves, file_limit}
-use Rattle.combine_cli.specs.Headline.{IsCertifiedReport}
-use Rattle.combine_cli.specs.declared.decide.Names.{Names}
+use Rattle.snx_blocks.specs.Documents.{PlainDoc}
+use Rattle.neq_stack.specs.Neqs.{PlainNeq}
+use Rattle.recover_neq.specs.Exact.{IsExact}
+use Rattle.sys_model.specs.Scaling.{LiesInStack}
+use Rattle.sys_model.specs.Systems.{System}
+use Rattle.stack_rules.specs.Rules.{Numbers, IsAnswer}
+use Rattle.combine_cli.specs.Refusals.{status_of}
+use Rattle.combine_cli.specs.Report.{numbers_report}
+use Rattle.combine_cli.specs.Verdict.{Outcome, FileNames, AreSolve, ReadsText, Recovers, Solves, stack_in, file_limit}
+use Rattle.combine_cli.specs.Headline.{AreCertifiedOf, IsCertifiedReport}
+use Rattle.combine_cli.specs.declared.decide.Command.{Command}
 use Rattle.combine_cli.specs.declared.refusal.Refusal.{Refusal}
 
 -- the names of a command in memory
-abbrev pub names_in : Names → FileNames
+abbrev pub names_in : Command → FileNames
 names_in names = record { from = names.from.now; to = names.to.now }
 
 -- the status of an answer: 0, or that of its refusal
@@ -24,7 +31,19 @@ IfTold P refusal = status_of refusal ≢ 4 → status_of refusal ≢ 5 → P ref
 
 -- the steps of the verdict from the text on
 abbrev pub IsTextVerdict : FileNames → List ℕ → Outcome → Type 0
-IsTextVerdict names text = Then (ReadsText names.from text) (λ plain. Solves names plain)
+IsTextVerdict names text = Then (ReadsText names.from text) (λ doc. Then (Recovers names.from doc) (λ neq. Solves names neq))
+
+-- the exact systems of a document over the names of its normal equations: there is one, and each lies in the intervals
+pub record HasExact (doc : PlainDoc) (neq : PlainNeq) : Type 0 where
+  pub some : (S : System) × IsExact doc neq.names S
+  pub each : (S : System) → IsExact doc neq.names S → LiesInStack (length neq.names) (stack_in neq).table (stack_in neq).scales S
+
+-- the text tells certified numbers of these normal equations
+pub record IsReportOf (neq : PlainNeq) (text : List ℕ) : Type 0 where
+  pub numbers : Numbers
+  pub answers : IsAnswer (stack_in neq) (Ok numbers)
+  pub tells : text ≡ numbers_report neq.names neq.units numbers
+  pub certified : AreCertifiedOf neq numbers
 
 -- The words name this output and a file that is short enough, and the output is a certified report of the file's bytes.
 pub record IsPlanned (words : List (List ℕ)) (files : List ℕ → Option File) (outputs : List NamedText) : Type 0 where

@@ -1,14 +1,23 @@
--- Refusals: the status and the line of each, and how the causes of the rules are told.
-use Rattle.std.specs.Prelude.{◌++◌, ◌∷◌, ℕ, zero, suc, List, [], codes}
+-- Refusals: the status and the line of each, and how the causes of the steps are told.
+use Rattle.std.specs.Prelude.{◌++◌, ◌∷◌, ℕ, List, [], codes, slice_get, unwrap_or}
 use Rattle.std.specs.Fmt.{decimal}
-use Rattle.plain_rows.specs.declared.Parameter.{Parameter}
-use Rattle.plain_rows.specs.declared.Row.{Row}
-use Rattle.solve_plain.specs.declared.SolveError.{SolveError}
-use Rattle.solve_plain.specs.declared.SolveError.TheVariants as causes
+use Rattle.snx_epoch.specs.declared.Epoch.TheVariants.{Never}
+use Rattle.snx_lines.specs.declared.blocks.FrameCause.{FrameCause}
+use Rattle.snx_lines.specs.declared.blocks.FrameCause.TheVariants as frames
+use Rattle.param_ids.specs.Plain.{PlainId}
+use Rattle.param_ids.specs.Ids.{id_text}
+use Rattle.snx_rows.specs.declared.causes.Cause.{Cause}
+use Rattle.snx_rows.specs.declared.causes.Cause.TheVariants as lines
+use Rattle.snx_blocks.specs.Sections.{section_name}
+use Rattle.snx_blocks.specs.declared.sections.Section.TheVariants.{Apriori}
+use Rattle.recover_neq.specs.declared.RecoverFault.{RecoverFault}
+use Rattle.recover_neq.specs.declared.RecoverFault.TheVariants as recovery
+use Rattle.stack_rules.specs.declared.StackError.{StackError}
+use Rattle.stack_rules.specs.declared.StackError.TheVariants as rules
 use Rattle.combine_cli.specs.declared.refusal.Scope.{Scope}
 use Rattle.combine_cli.specs.declared.refusal.Scope.TheVariants.{File, Stack}
 use Rattle.combine_cli.specs.declared.refusal.Refusal.{Refusal}
-use Rattle.combine_cli.specs.declared.refusal.Refusal.TheVariants.{Words, NoFile, TooLong, Unbuilt, Memory, Desk, Range, Pivot, Condition, Residual, Defect}
+use Rattle.combine_cli.specs.declared.refusal.Refusal.TheVariants.{Words, NoFile, TooLong, Line, Block, Unmatched, Empty, Unbuilt, Memory, Desk, Range, Pivot, Condition, Residual, Defect}
 
 -- 2: the words are no command. 3: what was to be read can't be. 4: memory is wanting. 5: the desk failed. 6: a number passes
 -- its range, or the rules don't certify it.
@@ -16,6 +25,10 @@ abbrev pub status_of : Refusal → ℕ
 status_of Words = 2
 status_of (NoFile name) = 3
 status_of (TooLong name) = 3
+status_of (Line name fault) = 3
+status_of (Block place block) = 3
+status_of (Unmatched place id) = 3
+status_of (Empty place) = 3
 status_of (Unbuilt name) = 3
 status_of Memory = 4
 status_of Desk = 5
@@ -30,23 +43,47 @@ abbrev pub place_text : Scope → List ℕ
 place_text (File name) = codes "file:" ++ name
 place_text Stack = codes "stack"
 
--- the name of an unknown: type, code, point, solution and epoch
-abbrev pub name_text : Parameter → List ℕ
-name_text p = codes "STA" ++ (p.axis ∷ (codes "/" ++ (p.code ++ codes "/A/1/24:001:00000")))
+-- why a line breaks the frame of its text
+abbrev pub frame_text : FrameCause → List ℕ
+frame_text frames.NoHeader = codes "NoHeader"
+frame_text frames.Version = codes "Version"
+frame_text frames.FirstColumn = codes "FirstColumn"
+frame_text frames.Nested = codes "Nested"
+frame_text frames.WrongEnd = codes "WrongEnd"
+frame_text frames.NoEnd = codes "NoEnd"
+frame_text frames.AfterFooter = codes "AfterFooter"
+frame_text frames.NoFooter = codes "NoFooter"
 
--- what is refused of an unknown, and where
-abbrev pub at_unknown : List ℕ → Scope → Parameter → List ℕ
-at_unknown what place id = what ++ (place_text place ++ (codes " " ++ name_text id))
+-- why a line is bad
+abbrev pub cause_text : Cause → List ℕ
+cause_text (lines.Frame cause) = frame_text cause
+cause_text lines.Field = codes "Field"
+cause_text (lines.Epoch fault) = codes "Epoch"
+cause_text lines.Index = codes "Index"
+cause_text (lines.Number fault) = codes "Number"
+cause_text lines.Size = codes "Size"
+cause_text lines.Triangle = codes "Triangle"
+cause_text lines.Repeated = codes "Repeated"
+cause_text lines.MissingBlock = codes "MissingBlock"
+cause_text lines.TooMany = codes "TooMany"
+
+-- what is refused of a parameter, and where
+abbrev pub at_unknown : List ℕ → Scope → PlainId → List ℕ
+at_unknown what place id = what ++ (place_text place ++ (codes " " ++ id_text id))
 
 -- what a refusal says
 abbrev pub text_of : Refusal → List ℕ
 text_of Words = codes "words"
 text_of (NoFile name) = codes "no file " ++ name
 text_of (TooLong name) = codes "too long " ++ name
+text_of (Line name fault) = name ++ (codes ":" ++ (decimal fault.line ++ (codes " " ++ cause_text fault.cause)))
+text_of (Block place block) = codes "block " ++ (place_text place ++ (codes " " ++ section_name block))
+text_of (Unmatched place id) = at_unknown (codes "unmatched ") place id
+text_of (Empty place) = codes "empty " ++ place_text place
 text_of (Unbuilt name) = codes "unbuilt " ++ name
 text_of Memory = codes "memory"
 text_of Desk = codes "desk"
-text_of (Range place row col) = at_unknown (codes "range ") place row ++ (codes " " ++ name_text col)
+text_of (Range place row col) = at_unknown (codes "range ") place row ++ (codes " " ++ id_text col)
 text_of (Pivot place id) = at_unknown (codes "pivot ") place id
 text_of (Condition place id) = at_unknown (codes "condition ") place id
 text_of (Residual place id size) = at_unknown (codes "residual ") place id ++ (codes " " ++ decimal size)
@@ -56,19 +93,29 @@ text_of (Defect place id parts) = at_unknown (codes "defect ") place id ++ (code
 abbrev pub line_of : Refusal → List ℕ
 line_of refusal = codes "snxcomb: " ++ (text_of refusal ++ codes "\n")
 
--- the unknown of row k, counted from 0; past the last row a name of zeros
-abbrev pub unknown_at : List Row → ℕ → Parameter
-unknown_at [] k = record { axis = 0; code = 0 ∷ 0 ∷ 0 ∷ 0 ∷ [] }
-unknown_at (row ∷ rows) zero = row.parameter
-unknown_at (row ∷ rows) (suc k) = unknown_at rows k
+-- ---- the causes of the steps
 
--- The refusal for a cause of the rules: the numbers of the file itself are told under its name, and all later ones are the
--- stack's.
-abbrev pub refusal_of : List ℕ → List Row → SolveError → Refusal
-refusal_of name rows (causes.Words row col) = Range (File name) (unknown_at rows row) (unknown_at rows col)
-refusal_of name rows (causes.Range row col) = Range Stack (unknown_at rows row) (unknown_at rows col)
-refusal_of name rows (causes.Pivot row) = Pivot Stack (unknown_at rows row)
-refusal_of name rows (causes.Condition col) = Condition Stack (unknown_at rows col)
-refusal_of name rows (causes.Residual row size) = Residual Stack (unknown_at rows row) size
-refusal_of name rows (causes.Defect row parts) = Defect Stack (unknown_at rows row) parts
-refusal_of name rows causes.Memory = Memory
+-- The refusal of a file whose normal equations are not recovered. One with a priori values, but without the right side or the
+-- matrix of normal equations, is not built yet.
+abbrev pub refusal_of_recovery : List ℕ → RecoverFault → Refusal
+refusal_of_recovery name (recovery.MissingBlock Apriori) = Block (File name) Apriori
+refusal_of_recovery name (recovery.MissingBlock block) = Unbuilt name
+refusal_of_recovery name (recovery.Unmatched id) = Unmatched (File name) id
+refusal_of_recovery name recovery.Empty = Empty (File name)
+refusal_of_recovery name (recovery.Range row col) = Range (File name) row col
+
+-- the name of row k, counted from 0; past the last row a name of zeros
+abbrev pub no_name : PlainId
+no_name = record { kind = 0 ∷ 0 ∷ 0 ∷ 0 ∷ 0 ∷ 0 ∷ []; code = 0 ∷ 0 ∷ 0 ∷ 0 ∷ []; point = 0 ∷ 0 ∷ []; soln = 0 ∷ 0 ∷ 0 ∷ 0 ∷ []; epoch = Never }
+
+abbrev pub name_at : List PlainId → ℕ → PlainId
+name_at names k = unwrap_or (slice_get names k) no_name
+
+-- the refusal of a stack of these names for a cause of the rules
+abbrev pub refusal_of_rules : List PlainId → StackError → Refusal
+refusal_of_rules names (rules.Range row col) = Range Stack (name_at names row) (name_at names col)
+refusal_of_rules names (rules.Pivot row) = Pivot Stack (name_at names row)
+refusal_of_rules names (rules.Condition col) = Condition Stack (name_at names col)
+refusal_of_rules names (rules.Residual row size) = Residual Stack (name_at names row) size
+refusal_of_rules names (rules.Defect row parts) = Defect Stack (name_at names row) parts
+refusal_of_rules names rules.Memory = Memory

@@ -1,16 +1,20 @@
 -- What a run is to do: a relation of its words, the files by name and its outcome, and of nothing else. It is said as steps in
--- their order: the words, the file, its text, the rules. The first that refuses gives the outcome.
+-- their order: the words, the file, its text, its normal equations, the rules. The first that refuses gives the outcome.
 use Rattle.std.specs.Prelude.{◌≡◌, ◌≢◌, ◌⊎◌, ◌≤◌, ◌<◌, ◌∷◌, ◌^◌, ℕ, List, [], length, Some, None, Option, Result, Ok, Err, codes}
-use Rattle.stated_order.specs.Steps.{Then}
+use Rattle.stated_order.specs.Steps.{Then, Renamed}
 use Rattle.desk_io.specs.Content.{File}
 use Rattle.desk_io.specs.Outputs.{NamedText}
-use Rattle.plain_rows.specs.Plain.{PlainFile, IsPlainForm}
-use Rattle.solve_plain.specs.Solving.{Numbers, IsAnswer}
-use Rattle.solve_plain.specs.declared.SolveError.{SolveError}
-use Rattle.combine_cli.specs.Refusals.{refusal_of}
+use Rattle.param_ids.specs.Tables.{standard_scales}
+use Rattle.snx_blocks.specs.Documents.{PlainDoc, IsDocument}
+use Rattle.neq_stack.specs.Neqs.{PlainNeq}
+use Rattle.recover_neq.specs.Recovery.{IsRecovered}
+use Rattle.stack_rules.specs.Rules.{Numbers, IsAnswer}
+use Rattle.stack_rules.specs.Stacks.{Stack, stack_of}
+use Rattle.stack_rules.specs.declared.StackError.{StackError}
+use Rattle.combine_cli.specs.Refusals.{refusal_of_recovery, refusal_of_rules}
 use Rattle.combine_cli.specs.Report.{numbers_report}
 use Rattle.combine_cli.specs.declared.refusal.Refusal.{Refusal}
-use Rattle.combine_cli.specs.declared.refusal.Refusal.TheVariants.{Words, NoFile, TooLong, Unbuilt}
+use Rattle.combine_cli.specs.declared.refusal.Refusal.TheVariants.{Words, NoFile, TooLong, Line}
 
 -- The outcome of a run: the outputs that it writes, in their order, or why it refuses.
 abbrev pub Outcome : Type 0
@@ -51,21 +55,30 @@ ReadsFile name (Some file) result =
 
 -- ---- its text
 
--- What the text says, if it is in the plain form. Every other text of that file is not built yet.
-abbrev pub ReadsText : List ℕ → List ℕ → Result PlainFile Refusal → Type 0
-ReadsText name text (Ok plain) = IsPlainForm text plain
-ReadsText name text (Err refusal) = ((plain : PlainFile) → ¬ (IsPlainForm text plain)) × (refusal ≡ Unbuilt name)
+-- what the text says, or its first bad line
+abbrev pub ReadsText : List ℕ → List ℕ → Result PlainDoc Refusal → Type 0
+ReadsText name text = Renamed (λ fault. Line name fault) (IsDocument text)
+
+-- ---- its normal equations
+
+-- the normal equations of the document with the standard scales, or why it has none
+abbrev pub Recovers : List ℕ → PlainDoc → Result PlainNeq Refusal → Type 0
+Recovers name doc = Renamed (refusal_of_recovery name) (IsRecovered doc standard_scales)
 
 -- ---- the rules
 
--- the report of the rules' numbers, or the refusal for their cause
-abbrev pub outcome_of : FileNames → PlainFile → Result Numbers SolveError → Outcome
-outcome_of names plain (Ok numbers) = Ok (record { name = names.to; text = numbers_report plain.rows numbers } ∷ [])
-outcome_of names plain (Err cause) = Err (refusal_of names.from plain.rows cause)
+-- the stack of normal equations
+abbrev pub stack_in : PlainNeq → Stack
+stack_in neq = stack_of neq.table neq.right neq.apriori neq.scales
 
--- The outcome is what the rules answer to the file.
-abbrev pub Solves : FileNames → PlainFile → Outcome → Type 0
-Solves names plain outcome = (answer : Result Numbers SolveError) × IsAnswer plain answer × (outcome ≡ outcome_of names plain answer)
+-- the report of the rules' numbers, or the refusal for their cause
+abbrev pub outcome_of : FileNames → PlainNeq → Result Numbers StackError → Outcome
+outcome_of names neq (Ok numbers) = Ok (record { name = names.to; text = numbers_report neq.names neq.units numbers } ∷ [])
+outcome_of names neq (Err cause) = Err (refusal_of_rules neq.names cause)
+
+-- The outcome is what the rules answer to the stack.
+abbrev pub Solves : FileNames → PlainNeq → Outcome → Type 0
+Solves names neq outcome = (answer : Result Numbers StackError) × IsAnswer (stack_in neq) answer × (outcome ≡ outcome_of names neq answer)
 
 -- ---- all steps, in their order
 
@@ -73,5 +86,6 @@ abbrev pub IsVerdict : List (List ℕ) → (List ℕ → Option File) → Outcom
 IsVerdict words files =
     Then (ReadsWords words) (λ names.
     Then (ReadsFile names.from (files names.from)) (λ text.
-    Then (ReadsText names.from text) (λ plain.
-    Solves names plain)))
+    Then (ReadsText names.from text) (λ doc.
+    Then (Recovers names.from doc) (λ neq.
+    Solves names neq))))

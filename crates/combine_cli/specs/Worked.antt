@@ -1,8 +1,11 @@
 -- Worked values, at which the laws of src/laws.rt tie the definitions.
-use Rattle.std.specs.Prelude.{◌∷◌, ℕ, ℤ, pos, negsuc, List, [], codes}
+use Rattle.std.specs.Prelude.{◌∷◌, ℕ, ℤ, pos, negsuc, List, [], Some, None, codes}
 use Rattle.decimal_e.specs.Decimals.{Decimal}
-use Rattle.plain_rows.specs.Plain.{PlainFile}
-use Rattle.plain_rows.specs.declared.Parameter.{Parameter}
+use Rattle.snx_epoch.specs.declared.Epoch.TheVariants.{At}
+use Rattle.param_ids.specs.Plain.{PlainId}
+use Rattle.snx_rows.specs.declared.rows.Row.{Row}
+use Rattle.snx_matrices.specs.declared.elements.Content.TheVariants.{Info}
+use Rattle.snx_blocks.specs.Documents.{PlainDoc, empty_doc}
 use Rattle.bounds_report.specs.declared.numbers.Printed.{Printed}
 
 -- .1E+01, .4E+04 and .25
@@ -15,15 +18,20 @@ four_thousand = record { mant = pos 4; exp = pos 3 }
 abbrev pub quarter : Decimal
 quarter = record { mant = pos 25; exp = negsuc 1 }
 
--- the unknown STAX of the station ABCD
-abbrev pub worked_unknown : Parameter
-worked_unknown = record { axis = 88; code = codes "ABCD" }
+-- STAX of the station ABCD, point A, solution 1, on 2024-01-01, the day 19723 after 1970-01-01
+abbrev pub worked_name : PlainId
+worked_name = record { kind = codes "STAX  "; code = codes "ABCD"; point = codes "A "; soln = codes "1   "; epoch = At (pos 19723) 0 }
+
+-- the row of that name with this value
+abbrev pub worked_row : Decimal → Row
+worked_row value = record { index = 1; id = worked_name; unit = codes "m   "; value = value; dev = None; line = 3 }
 
 -- the normal equation .4E+04 (x - .1E+01) = .25
-abbrev pub worked_file : PlainFile
-worked_file = record {
-  rows = record { parameter = worked_unknown; apriori = one; vector = quarter } ∷ [];
-  elements = record { row = 0; col = 0; value = four_thousand } ∷ [];
+abbrev pub worked_document : PlainDoc
+worked_document = record empty_doc {
+  apriori = Some (worked_row one ∷ []);
+  vector = Some (worked_row quarter ∷ []);
+  normal_matrix = Some (record { content = Info; cells = record { row = 0; col = 0; value = four_thousand } ∷ [] });
 }
 
 -- a printed row with these bounds, in units of 10^-16

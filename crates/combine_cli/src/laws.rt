@@ -7,11 +7,15 @@ ghost use Rattle.sys_model.specs.Scaling.{LiesInStack};
 ghost use Rattle.sys_model.specs.Systems.{System, Fractions, Table, Solves};
 ghost use Rattle.bounds_report.specs.Bounds.{AreCertified, LiesBetween};
 ghost use Rattle.bounds_report.specs.declared.numbers.Printed.{Printed};
-ghost use Rattle.solve_plain.specs.Exact.{IsExact};
-ghost use Rattle.combine_cli.specs.Refusals.{line_of};
+ghost use Rattle.snx_lines.specs.declared.blocks.FrameCause.TheVariants as frames;
+ghost use Rattle.snx_rows.specs.declared.causes.Cause.TheVariants as causes;
+ghost use Rattle.snx_blocks.specs.declared.sections.Section.TheVariants as sections;
+ghost use Rattle.recover_neq.specs.Exact.{IsExact};
+ghost use Rattle.recover_neq.specs.declared.RecoverFault.TheVariants as recovery;
+ghost use Rattle.combine_cli.specs.Refusals.{line_of, refusal_of_recovery};
 ghost use Rattle.combine_cli.specs.Runs.{StoppedAt};
 ghost use Rattle.combine_cli.specs.Verdict.{Outcome, IsVerdict};
-ghost use Rattle.combine_cli.specs.Worked.{one, worked_unknown, worked_file, bounded_by};
+ghost use Rattle.combine_cli.specs.Worked.{one, worked_name, worked_document, bounded_by};
 ghost use Rattle.combine_cli.specs.declared.refusal.Scope.TheVariants as places;
 ghost use Rattle.combine_cli.specs.declared.refusal.Refusal.TheVariants as refusals;
 
@@ -28,11 +32,11 @@ pub fn bounds_hold_their_solutions()
         → LiesInStack n t scale S → (v : Fractions) × Solves n S v }
 {}
 
-/// The exact systems of a file with the matrix .4E+04 and the vector .25 are those of 4000 x = 1/4.
+/// The exact systems of a document with the matrix .4E+04 and the right side .25, over its one name, are those of 4000 x = 1/4.
 pub fn exact_systems_are_as_written()
-    ensures some { IsExact worked_file (record { q = 4; a = λ _ _. pos 16000; c = λ _. pos 1 }) }
-    ensures matrix { (S : System) → IsExact worked_file S → S.a 0 0 ≡ pos 4000 *ℤ pos S.q }
-    ensures vector { (S : System) → IsExact worked_file S → S.c 0 *ℤ pos 4 ≡ pos S.q }
+    ensures some { IsExact worked_document (worked_name ∷ []) (record { q = 4; a = λ _ _. pos 16000; c = λ _. pos 1 }) }
+    ensures matrix { (S : System) → IsExact worked_document (worked_name ∷ []) S → S.a 0 0 ≡ pos 4000 *ℤ pos S.q }
+    ensures vector { (S : System) → IsExact worked_document (worked_name ∷ []) S → S.c 0 *ℤ pos 4 ≡ pos S.q }
 {}
 
 /// Where a run stopped, an output's file that was not there before holds a beginning of the output's text. Where the second of
@@ -46,9 +50,15 @@ pub fn stopped_outputs_are_fronts()
 
 /// The lines of refusals, and the outcome of some words, at worked values.
 pub fn refusals_are_told()
-    ensures range { line_of (refusals.Range (places.File (codes "in")) worked_unknown worked_unknown)
+    ensures line { line_of (refusals.Line (codes "in") (record { line = 12; cause = causes.Size })) ≡ codes "snxcomb: in:12 Size\n" }
+    ensures frame { line_of (refusals.Line (codes "in") (record { line = 10; cause = causes.Frame frames.NoEnd })) ≡ codes "snxcomb: in:10 NoEnd\n" }
+    ensures block { line_of (refusal_of_recovery (codes "in") (recovery.MissingBlock sections.Apriori)) ≡ codes "snxcomb: block file:in SOLUTION/APRIORI\n" }
+    ensures unbuilt { line_of (refusal_of_recovery (codes "in") (recovery.MissingBlock sections.NormalMatrix)) ≡ codes "snxcomb: unbuilt in\n" }
+    ensures unmatched { line_of (refusal_of_recovery (codes "in") (recovery.Unmatched worked_name)) ≡ codes "snxcomb: unmatched file:in STAX/ABCD/A/1/24:001:00000\n" }
+    ensures empty { line_of (refusal_of_recovery (codes "in") recovery.Empty) ≡ codes "snxcomb: empty file:in\n" }
+    ensures range { line_of (refusals.Range (places.File (codes "in")) worked_name worked_name)
         ≡ codes "snxcomb: range file:in STAX/ABCD/A/1/24:001:00000 STAX/ABCD/A/1/24:001:00000\n" }
-    ensures pivot { line_of (refusals.Pivot places.Stack worked_unknown) ≡ codes "snxcomb: pivot stack STAX/ABCD/A/1/24:001:00000\n" }
+    ensures pivot { line_of (refusals.Pivot places.Stack worked_name) ≡ codes "snxcomb: pivot stack STAX/ABCD/A/1/24:001:00000\n" }
     ensures no_words { (files : List ℕ → Option File) (outcome : Outcome) → IsVerdict [] files outcome → outcome ≡ Err refusals.Words }
     ensures no_file { (files : List ℕ → Option File) (from to : List ℕ) → from ≢ to → files from ≡ None
         → IsVerdict (codes "solve" ∷ from ∷ to ∷ []) files (Err (refusals.NoFile from)) }

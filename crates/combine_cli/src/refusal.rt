@@ -1,12 +1,16 @@
 // Refusals, with their statuses and lines.
 ghost use Rattle.std.specs.Prelude.{◌≡◌, ◌≢◌, ◌++◌, IfOk, codes};
 ghost use Rattle.std.specs.Fmt.{decimal};
-ghost use Rattle.combine_cli.specs.Refusals.{status_of, place_text, name_text, at_unknown, text_of, line_of};
+ghost use Rattle.param_ids.specs.Ids.{id_text};
+ghost use Rattle.snx_blocks.specs.Sections.{section_name};
+ghost use Rattle.combine_cli.specs.Refusals.{status_of, place_text, frame_text, cause_text, at_unknown, text_of, line_of};
 ghost use Rattle.combine_cli.specs.Runs.{IsStatus};
 ghost use Rattle.combine_cli.specs.declared.refusal.Refusal.TheVariants.{Memory};
 
 use crate::name::Name;
-use plain_rows::Parameter;
+use param_ids::{ParamId, push_id};
+use snx_blocks::{Cause, LineFault, Section};
+use snx_lines::FrameCause;
 use std::alloc::{AllocError, Global};
 
 /// Where a refusal arose: at the numbers of one file, or at those of the whole stack.
@@ -29,7 +33,26 @@ pub enum Refusal {
     TooLong {
         name: Name,
     },
-    /// The file of that name isn't in the plain form, and other forms aren't read yet.
+    /// A line of the file is bad, the first of them.
+    Line {
+        name: Name,
+        fault: LineFault,
+    },
+    /// The file lacks a block that is needed.
+    Block {
+        place: Scope,
+        block: Section,
+    },
+    /// The right side has a row of this name, the first of those that have no a priori value.
+    Unmatched {
+        place: Scope,
+        id: ParamId,
+    },
+    /// The right side has no row.
+    Empty {
+        place: Scope,
+    },
+    /// The file of that name lacks normal equations, and files without them aren't solved yet.
     Unbuilt {
         name: Name,
     },
@@ -40,29 +63,29 @@ pub enum Refusal {
     /// A number of this row and column passes its range. One of a row alone names it twice.
     Range {
         place: Scope,
-        row: Parameter,
-        col: Parameter,
+        row: ParamId,
+        col: ParamId,
     },
     /// The approximate factor ends before this row.
     Pivot {
         place: Scope,
-        id: Parameter,
+        id: ParamId,
     },
     /// The approximate inverse passes its bounds in this column.
     Condition {
         place: Scope,
-        id: Parameter,
+        id: ParamId,
     },
     /// The error of this row is too great.
     Residual {
         place: Scope,
-        id: Parameter,
+        id: ParamId,
         size: u128,
     },
     /// The defect of this row is too great, in parts of 2^30.
     Defect {
         place: Scope,
-        id: Parameter,
+        id: ParamId,
         parts: u64,
     },
 }
@@ -89,7 +112,13 @@ pub fn status(refusal: &Refusal) -> u8
 {
     match refusal {
         Refusal::Words => 2,
-        Refusal::NoFile { .. } | Refusal::TooLong { .. } | Refusal::Unbuilt { .. } => 3,
+        Refusal::NoFile { .. }
+        | Refusal::TooLong { .. }
+        | Refusal::Line { .. }
+        | Refusal::Block { .. }
+        | Refusal::Unmatched { .. }
+        | Refusal::Empty { .. }
+        | Refusal::Unbuilt { .. } => 3,
         Refusal::Memory => 4,
         Refusal::Desk => 5,
         Refusal::Range { .. }
@@ -109,16 +138,54 @@ fn joined(alloc: Global, first: &[u8], second: &[u8]) -> Result<Vec<u8>, AllocEr
     Ok(text)
 }
 
-// The name of an unknown: type, code, point, solution and epoch.
-fn name_text(alloc: Global, p: &Parameter) -> Result<Vec<u8>, AllocError>
-    ensures { IfOk result (λ name. name.items ≡ name_text p.now) }
+// Why a line breaks the frame of its text.
+fn frame_text(cause: FrameCause) -> &'static [u8]
+    ensures { result.now ≡ frame_text cause }
 {
-    let mut name = Vec::from_slice(alloc, b"STA")?;
-    name.push(p.axis)?;
-    name.push(b'/')?;
-    name.extend_from_slice(&p.code)?;
-    name.extend_from_slice(b"/A/1/24:001:00000")?;
-    Ok(name)
+    match cause {
+        FrameCause::NoHeader => b"NoHeader",
+        FrameCause::Version => b"Version",
+        FrameCause::FirstColumn => b"FirstColumn",
+        FrameCause::Nested => b"Nested",
+        FrameCause::WrongEnd => b"WrongEnd",
+        FrameCause::NoEnd => b"NoEnd",
+        FrameCause::AfterFooter => b"AfterFooter",
+        FrameCause::NoFooter => b"NoFooter",
+    }
+}
+
+// Why a line is bad.
+fn cause_text(cause: Cause) -> &'static [u8]
+    ensures { result.now ≡ cause_text cause }
+{
+    match cause {
+        Cause::Frame(cause) => frame_text(cause),
+        Cause::Field => b"Field",
+        Cause::Epoch(_) => b"Epoch",
+        Cause::Index => b"Index",
+        Cause::Number(_) => b"Number",
+        Cause::Size => b"Size",
+        Cause::Triangle => b"Triangle",
+        Cause::Repeated => b"Repeated",
+        Cause::MissingBlock => b"MissingBlock",
+        Cause::TooMany => b"TooMany",
+    }
+}
+
+// The name of a block.
+fn section_name(block: Section) -> &'static [u8]
+    ensures { result.now ≡ section_name block }
+{
+    match block {
+        Section::Estimates => b"SOLUTION/ESTIMATE",
+        Section::Apriori => b"SOLUTION/APRIORI",
+        Section::Vector => b"SOLUTION/NORMAL_EQUATION_VECTOR",
+        Section::EstimateMatrix => b"SOLUTION/MATRIX_ESTIMATE",
+        Section::AprioriMatrix => b"SOLUTION/MATRIX_APRIORI",
+        Section::NormalMatrix => b"SOLUTION/NORMAL_EQUATION_MATRIX",
+        Section::Sites => b"SITE/ID",
+        Section::Epochs => b"SOLUTION/EPOCHS",
+    }
 }
 
 // Where a refusal arose.
@@ -131,20 +198,49 @@ fn place_text(alloc: Global, place: &Scope) -> Result<Vec<u8>, AllocError>
     }
 }
 
-// What is refused of an unknown, and where.
+// A bad line of a file.
+fn line_text(alloc: Global, name: &Name, fault: LineFault) -> Result<Vec<u8>, AllocError>
+    ensures { IfOk result (λ text. text.items ≡ name.now ++ (codes ":" ++ (decimal fault.line ++ (codes " " ++ cause_text fault.cause)))) }
+{
+    let line = fault.line;
+    let number = format!(in alloc; ":{line} ")?;
+    let mut text = joined(alloc, name.as_bytes(), number.as_bytes())?;
+    text.extend_from_slice(cause_text(fault.cause))?;
+    Ok(text)
+}
+
+// A block that is missing.
+fn block_text(alloc: Global, place: &Scope, block: Section) -> Result<Vec<u8>, AllocError>
+    ensures { IfOk result (λ text. text.items ≡ codes "block " ++ (place_text place.now ++ (codes " " ++ section_name block))) }
+{
+    let place = place_text(alloc, place)?;
+    let mut text = joined(alloc, b"block ", &place)?;
+    text.push(b' ')?;
+    text.extend_from_slice(section_name(block))?;
+    Ok(text)
+}
+
+// A right side without rows.
+fn empty_text(alloc: Global, place: &Scope) -> Result<Vec<u8>, AllocError>
+    ensures { IfOk result (λ text. text.items ≡ codes "empty " ++ place_text place.now) }
+{
+    let place = place_text(alloc, place)?;
+    joined(alloc, b"empty ", &place)
+}
+
+// What is refused of a parameter, and where.
 fn at_unknown(
     alloc: Global,
     what: &[u8],
     place: &Scope,
-    id: &Parameter,
+    id: &ParamId,
 ) -> Result<Vec<u8>, AllocError>
     ensures { IfOk result (λ text. text.items ≡ at_unknown what.now place.now id.now) }
 {
     let place = place_text(alloc, place)?;
-    let name = name_text(alloc, id)?;
     let mut text = joined(alloc, what, &place)?;
     text.push(b' ')?;
-    text.extend_from_slice(&name)?;
+    push_id(&mut text, id)?;
     Ok(text)
 }
 
@@ -152,24 +248,23 @@ fn at_unknown(
 fn range_text(
     alloc: Global,
     place: &Scope,
-    row: &Parameter,
-    col: &Parameter,
+    row: &ParamId,
+    col: &ParamId,
 ) -> Result<Vec<u8>, AllocError>
-    ensures { IfOk result (λ text. text.items ≡ at_unknown (codes "range ") place.now row.now ++ (codes " " ++ name_text col.now)) }
+    ensures { IfOk result (λ text. text.items ≡ at_unknown (codes "range ") place.now row.now ++ (codes " " ++ id_text col.now)) }
 {
-    let col = name_text(alloc, col)?;
     let mut text = at_unknown(alloc, b"range ", place, row)?;
     text.push(b' ')?;
-    text.extend_from_slice(&col)?;
+    push_id(&mut text, col)?;
     Ok(text)
 }
 
-// What is refused of an unknown, with a number.
+// What is refused of a parameter, with a number.
 fn with_number(
     alloc: Global,
     what: &[u8],
     place: &Scope,
-    id: &Parameter,
+    id: &ParamId,
     n: u128,
 ) -> Result<Vec<u8>, AllocError>
     ensures { IfOk result (λ text. text.items ≡ at_unknown what.now place.now id.now ++ (codes " " ++ decimal n)) }
@@ -187,6 +282,10 @@ fn text(alloc: Global, refusal: &Refusal) -> Result<Vec<u8>, AllocError>
         Refusal::Words => Vec::from_slice(alloc, b"words"),
         Refusal::NoFile { name } => joined(alloc, b"no file ", name.as_bytes()),
         Refusal::TooLong { name } => joined(alloc, b"too long ", name.as_bytes()),
+        Refusal::Line { name, fault } => line_text(alloc, name, *fault),
+        Refusal::Block { place, block } => block_text(alloc, place, *block),
+        Refusal::Unmatched { place, id } => at_unknown(alloc, b"unmatched ", place, id),
+        Refusal::Empty { place } => empty_text(alloc, place),
         Refusal::Unbuilt { name } => joined(alloc, b"unbuilt ", name.as_bytes()),
         Refusal::Memory => Vec::from_slice(alloc, b"memory"),
         Refusal::Desk => Vec::from_slice(alloc, b"desk"),

@@ -1,54 +1,15 @@
 // The report of bounds, as text.
 ghost use Rattle.std.specs.Prelude.{◌≡◌, ◌++◌, ◌∷◌, ◌+◌, ◌<◌, ◌/◌, ◌%◌, ◌^◌, length, flat_map, IfOk, string_bytes, codes};
-ghost use Rattle.plain_rows.specs.Plain.{six_columns, name_columns, row_label};
-ghost use Rattle.combine_cli.specs.Report.{units_text, bound_text, bounds_line, bounds_lines, certificate_line, report_text};
+ghost use Rattle.combine_cli.specs.Report.{units_text, bound_text, bounds_line, bounds_lines, certificate_line, numbers_report};
+ghost use Rattle.stack_rules.specs.Rules.{numbers_in};
 
 use bounds_report::Printed;
-use plain_rows::{Parameter, Row};
-use solve_plain::Solved;
+use param_ids::{Names, ParamId, push_label};
+use stack_rules::Solved;
 use std::alloc::{AllocError, Global};
 
 // One metre, in units of 10^-16.
 const UNITS: u128 = 10_000_000_000_000_000;
-
-// A number right-justified in six columns.
-fn six_columns(alloc: Global, n: usize) -> Result<String, AllocError>
-    ensures { IfOk result (λ text. string_bytes text ≡ six_columns n) }
-{
-    format!(in alloc; "{n:6}")
-}
-
-// Columns 8 to 18 of a row: type and code.
-fn name_columns(alloc: Global, p: &Parameter) -> Result<Vec<u8>, AllocError>
-    ensures { IfOk result (λ name. name.items ≡ name_columns p.now) }
-{
-    let mut name = Vec::from_slice(alloc, b"STA")?;
-    name.push(p.axis)?;
-    name.extend_from_slice(b"   ")?;
-    name.extend_from_slice(&p.code)?;
-    Ok(name)
-}
-
-// Columns 1 to 44 of a row with this index and this name.
-fn labelled(alloc: Global, index: &str, name: &[u8]) -> Result<Vec<u8>, AllocError>
-    ensures { IfOk result (λ label. label.items ≡ index.now ++ (codes " " ++ (name.now ++ codes "  A    1 24:001:00000 m   "))) }
-{
-    let mut label = Vec::from_slice(alloc, index.as_bytes())?;
-    label.push(b' ')?;
-    label.extend_from_slice(name)?;
-    label.extend_from_slice(b"  A    1 24:001:00000 m   ")?;
-    Ok(label)
-}
-
-// Columns 1 to 44 of row k, counted from 0.
-fn row_label(alloc: Global, k: usize, p: &Parameter) -> Result<Vec<u8>, AllocError>
-    requires { k + 1 < 2 ^ 64 }
-    ensures { IfOk result (λ label. label.items ≡ row_label k p.now) }
-{
-    let index = six_columns(alloc, k + 1)?;
-    let name = name_columns(alloc, p)?;
-    labelled(alloc, index.as_str(), &name)
-}
 
 // So many units of 10^-16.
 fn units_text(alloc: Global, units: u128) -> Result<String, AllocError>
@@ -71,29 +32,43 @@ fn bound_text(alloc: Global, units: i128) -> Result<String, AllocError>
     }
 }
 
-// The line of row k, counted from 0.
-fn bounds_line(alloc: Global, k: usize, p: &Parameter, n: &Printed) -> Result<Vec<u8>, AllocError>
-    requires { k + 1 < 2 ^ 64 }
-    ensures { IfOk result (λ line. line.items ≡ bounds_line k p.now n.now) }
+// The line of a row with this index.
+fn bounds_line(
+    alloc: Global,
+    index: usize,
+    id: &ParamId,
+    unit: &[u8; 4],
+    n: &Printed,
+) -> Result<Vec<u8>, AllocError>
+    ensures { IfOk result (λ line. line.items ≡ bounds_line index id.now unit.now n.now) }
 {
     let lower = bound_text(alloc, n.lower)?;
     let upper = bound_text(alloc, n.upper)?;
     let residual = n.residual;
     let place = n.place;
     let numbers = format!(in alloc; " {lower} {upper} {residual}E{place}\n")?;
-    let mut line = row_label(alloc, k, p)?;
+    let mut line = Vec::new(alloc);
+    push_label(&mut line, index, id, unit)?;
     line.extend_from_slice(numbers.as_bytes())?;
     Ok(line)
 }
 
-// The lines of all rows.
-fn bounds_lines(alloc: Global, rows: &[Row], numbers: &[Printed]) -> Result<Vec<u8>, AllocError>
-    requires { length numbers.now ≡ length rows.now }
-    ensures { IfOk result (λ text. text.items ≡ flat_map (λ line. line) (bounds_lines 0 rows.now numbers.now)) }
+// The lines of all rows, in the order of the names.
+fn bounds_lines(
+    alloc: Global,
+    names: &Names,
+    units: &[[u8; 4]],
+    numbers: &[Printed],
+) -> Result<Vec<u8>, AllocError>
+    requires units { length units.now ≡ length names.now }
+    requires numbers { length numbers.now ≡ length names.now }
+    ensures { IfOk result (λ text. text.items ≡ flat_map (λ line. line) (bounds_lines 1 names.now units.now numbers.now)) }
 {
     let mut text = Vec::new(alloc);
-    for k in 0..rows.len() {
-        let line = bounds_line(alloc, k, &rows[k].parameter, &numbers[k])?;
+    for k in 0..names.len() {
+        let unit = units[k];
+        let printed = numbers[k];
+        let line = bounds_line(alloc, k + 1, names.at(k), &unit, &printed)?;
         text.extend_from_slice(&line)?;
     }
     Ok(text)
@@ -121,11 +96,17 @@ fn framed(alloc: Global, certificate: &str, lines: &[u8]) -> Result<Vec<u8>, All
 }
 
 // The report of all rows.
-pub(crate) fn report(alloc: Global, rows: &[Row], solved: &Solved) -> Result<Vec<u8>, AllocError>
-    requires { length solved.now.rows.items ≡ length rows.now }
-    ensures { IfOk result (λ text. text.items ≡ report_text solved.now.g solved.now.parts solved.now.error (bounds_lines 0 rows.now solved.now.rows.items)) }
+pub(crate) fn report(
+    alloc: Global,
+    names: &Names,
+    units: &[[u8; 4]],
+    solved: &Solved,
+) -> Result<Vec<u8>, AllocError>
+    requires units { length units.now ≡ length names.now }
+    requires numbers { length solved.now.rows.items ≡ length names.now }
+    ensures { IfOk result (λ text. text.items ≡ numbers_report names.now units.now (numbers_in solved.now)) }
 {
-    let certificate = certificate_line(alloc, solved, rows.len())?;
-    let lines = bounds_lines(alloc, rows, &solved.rows)?;
+    let certificate = certificate_line(alloc, solved, names.len())?;
+    let lines = bounds_lines(alloc, names, units, &solved.rows)?;
     framed(alloc, certificate.as_str(), &lines)
 }

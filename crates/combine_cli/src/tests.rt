@@ -62,10 +62,10 @@ const ROWS: &str = "\
 1 | 0.10000000000001E+17 | 0 | range file:in STAX/ABCD/A/1/24:001:00000 STAX/ABCD/A/1/24:001:00000
 1 | 4 | 1E+17 | range file:in STAX/ABCD/A/1/24:001:00000 STAX/ABCD/A/1/24:001:00000
 1 | 1E-18 | 1E+03 | range stack STAX/ABCD/A/1/24:001:00000 STAX/ABCD/A/1/24:001:00000
-1000000000000.1 | 4 | 2 | unbuilt in
-1 | 1.152921504606846976 | 2 | unbuilt in
-1 | 4 |  | unbuilt in
-1 | 4.0.0 | 2 | unbuilt in
+1000000000000.1 | 4 | 2 | in:3 Size
+1 | 1.152921504606846976 | 2 | in:9 Number
+1 | 4 |  | in:6 Number
+1 | 4.0.0 | 2 | in:9 Number
 ";
 
 const PAIR_REPORT: &str = "SNXCOMB BOUNDS 1
@@ -244,7 +244,7 @@ fn rows_end<R: Threads + Sync + Abort + AllocGlobal>(rt: &R, rows: &str) -> Resu
         } else {
             let answer = row.answer;
             let said = format!(in alloc; "snxcomb: {answer}\n")?;
-            let status = if answer == "unbuilt in" { 3 } else { 6 };
+            let status = if answer.starts_with("in:") { 3 } else { 6 };
             solves(rt, text.as_str(), status, said.as_str(), None)?;
         }
     }
@@ -313,13 +313,160 @@ fn refusals(rt: HostRuntime) -> Result<(), Fail> {
         "snxcomb: no file none\n",
         None,
     )?;
-    solves(
-        &rt,
-        "%=SNX 2.02\n%ENDSNX\n",
-        3,
-        "snxcomb: unbuilt in\n",
-        None,
-    )
+    Ok(())
+}
+
+// A file of one station and one of two: the lines that stand in the place of those from the first number to the second, and what
+// the run says then. Where that is nothing, the report is that of the whole file.
+const ONE_STATION_EDITS: [(usize, usize, &str, &str); 13] = [
+    (
+        2,
+        2,
+        "* a comment
+
++FILE/REFERENCE
+ DESCRIPTION        no one
+-FILE/REFERENCE
++SOLUTION/APRIORI
+",
+        "",
+    ),
+    (
+        6,
+        6,
+        "     1 STAX   ABCD  A  001 24:001:00000 m    2  .200000000000000E+01\n",
+        "",
+    ),
+    (
+        6,
+        6,
+        "     1 STAX   ABCD  A    2 24:001:00000 m    2  .200000000000000E+01\n",
+        "unmatched file:in STAX/ABCD/A/2/24:001:00000",
+    ),
+    (
+        6,
+        9,
+        "-SOLUTION/NORMAL_EQUATION_VECTOR\n+SOLUTION/NORMAL_EQUATION_MATRIX L\n",
+        "empty file:in",
+    ),
+    (8, 10, "", "unbuilt in"),
+    (5, 10, "", "unbuilt in"),
+    (2, 10, "", "block file:in SOLUTION/APRIORI"),
+    (10, 11, "", "in:10 NoEnd"),
+    (11, 11, "", "in:11 NoFooter"),
+    (10, 10, "-SOLUTION/APRIORI\n", "in:10 WrongEnd"),
+    (2, 11, "", "in:2 NoFooter"),
+    (1, 11, "", "in:1 NoHeader"),
+    (5, 5, "+SOLUTION/APRIORI\n", "in:5 Repeated"),
+];
+
+const PAIR_EDITS: [(usize, usize, &str, &str); 7] = [
+    (
+        12,
+        13,
+        "     2     1                999999               1000000\n",
+        "",
+    ),
+    (
+        11,
+        11,
+        "     1     1               1000000                     0\n",
+        "",
+    ),
+    (
+        11,
+        11,
+        "     1     1               1000000                     1\n",
+        "in:11 Triangle",
+    ),
+    (
+        12,
+        12,
+        "     1     1               1000000\n",
+        "in:12 Repeated",
+    ),
+    (
+        12,
+        12,
+        "     3     1                999999\n",
+        "in:12 Index",
+    ),
+    (
+        12,
+        13,
+        "     2     1                999999               1000000                     1\n",
+        "in:12 Index",
+    ),
+    (
+        2,
+        9,
+        "+SOLUTION/APRIORI
+     1 STAY   ABCD  A    1 24:001:00000 m    2                     0 .000000E+00
+     2 STAX   ABCD  A    1 24:001:00000 m    2                     0 .000000E+00
+-SOLUTION/APRIORI
++SOLUTION/NORMAL_EQUATION_VECTOR
+     1 STAY   ABCD  A    1 24:001:00000 m    2               1999999
+     2 STAX   ABCD  A    1 24:001:00000 m    2               1999999
+-SOLUTION/NORMAL_EQUATION_VECTOR
+",
+        "",
+    ),
+];
+
+// A text with these lines in the place of those from the first number to the last, counted from 1.
+fn edited(
+    alloc: Global,
+    text: &str,
+    first: usize,
+    last: usize,
+    lines: &str,
+) -> Result<String, AllocError> {
+    let mut edited = String::new(alloc);
+    for (k, line) in text.lines().enumerate() {
+        let number = k.saturating_add(1);
+        if number == first {
+            edited.push_str(lines)?;
+        }
+        if number < first || number > last {
+            edited.push_str(line)?;
+            edited.push('\n')?;
+        }
+    }
+    Ok(edited)
+}
+
+// Runs on the file with each of the edits end as they say.
+fn edits_end<R: Threads + Sync + Abort + AllocGlobal>(
+    rt: &R,
+    text: &str,
+    edits: &[(usize, usize, &str, &str)],
+    report: &str,
+) -> Result<(), Fail> {
+    let alloc = rt.alloc();
+    for (first, last, lines, answer) in edits {
+        let text = edited(alloc, text, *first, *last, lines)?;
+        if answer.is_empty() {
+            solves(rt, text.as_str(), 0, "", Some(report))?;
+        } else {
+            let said = format!(in alloc; "snxcomb: {answer}\n")?;
+            solves(rt, text.as_str(), 3, said.as_str(), None)?;
+        }
+    }
+    Ok(())
+}
+
+#[test]
+fn documents(rt: HostRuntime) -> Result<(), Fail> {
+    let alloc = rt.alloc();
+    edits_end(&rt, ONE_STATION, &ONE_STATION_EDITS, ONE_STATION_REPORT)?;
+    let pair = pair_of(alloc, "1000000", "999999", "1999999")?;
+    edits_end(&rt, pair.as_str(), &PAIR_EDITS, PAIR_REPORT)?;
+    let mut text = String::new(alloc);
+    for line in ONE_STATION.lines() {
+        text.push_str(line)?;
+        text.push_str("\r\n")?;
+    }
+    solves(&rt, text.as_str(), 0, "", Some(ONE_STATION_REPORT))
 }
 
 #[test]

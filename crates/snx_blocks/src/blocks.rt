@@ -31,7 +31,12 @@ fn refusal(title: &Line, cause: Cause) -> DocError
 }
 
 /// The rows of a block, where none of its name stood before it.
-pub(crate) fn new_rows(alloc: Global, stood_before: bool, shape: Shape, block: &Block) -> Result<Vec<Row>, DocError>
+pub(crate) fn new_rows(
+    alloc: Global,
+    stood_before: bool,
+    shape: Shape,
+    block: &Block,
+) -> Result<Vec<Row>, DocError>
     ensures rows { Answers (λ rows. rows.items) (IsNewBlock stood_before (block_view block.now) (AreRows shape)) result }
     ensures sound { IfOk result (λ rows. AreSound shape rows.items) }
 {
@@ -42,7 +47,11 @@ pub(crate) fn new_rows(alloc: Global, stood_before: bool, shape: Shape, block: &
 }
 
 /// The sites of a block, where none of its name stood before it.
-pub(crate) fn new_sites(alloc: Global, stood_before: bool, block: &Block) -> Result<Vec<SiteRow>, DocError>
+pub(crate) fn new_sites(
+    alloc: Global,
+    stood_before: bool,
+    block: &Block,
+) -> Result<Vec<SiteRow>, DocError>
     ensures { Answers (λ sites. map site_view sites.items) (IsNewBlock stood_before (block_view block.now) AreSites) result }
 {
     if stood_before {
@@ -52,7 +61,11 @@ pub(crate) fn new_sites(alloc: Global, stood_before: bool, block: &Block) -> Res
 }
 
 /// The moments of a block, where none of its name stood before it.
-pub(crate) fn new_epochs(alloc: Global, stood_before: bool, block: &Block) -> Result<Vec<EpochRow>, DocError>
+pub(crate) fn new_epochs(
+    alloc: Global,
+    stood_before: bool,
+    block: &Block,
+) -> Result<Vec<EpochRow>, DocError>
     ensures { Answers (λ epochs. epochs.items) (IsNewBlock stood_before (block_view block.now) AreEpochs) result }
 {
     if stood_before {

@@ -12,3 +12,6 @@ pub use sections::Section;
 pub use snx_matrices::{Cell, Content};
 pub use snx_rows::{Cause, DocError, LineFault, Row};
 pub use snx_sites::{EpochRow, SiteRow};
+
+#[cfg(test)]
+mod tests;

@@ -26,7 +26,13 @@ fn put_estimate_matrix(alloc: Global, doc: &mut Doc, block: &Block) -> Result<()
 {
     let stood_before = doc.estimate_matrix.is_some();
     let heading = solution_heading(&block.title);
-    let matrix = new_matrix(alloc, stood_before, doc.estimates.as_deref(), heading, block)?;
+    let matrix = new_matrix(
+        alloc,
+        stood_before,
+        doc.estimates.as_deref(),
+        heading,
+        block,
+    )?;
     doc.estimate_matrix = Some(matrix);
     Ok(())
 }
@@ -58,7 +64,12 @@ fn put_normal_matrix(alloc: Global, doc: &mut Doc, block: &Block) -> Result<(), 
 }
 
 /// Puts into the document what a block of this section says.
-fn put_section(alloc: Global, doc: &mut Doc, section: Section, block: &Block) -> Result<(), DocError>
+fn put_section(
+    alloc: Global,
+    doc: &mut Doc,
+    section: Section,
+    block: &Block,
+) -> Result<(), DocError>
     requires { IsKept (doc_view doc.old) }
     ensures reads { Answers (λ _. doc_view doc.new) (IsSectionRead section (doc_view doc.old) (block_view block.now)) result }
     ensures kept { IfOk result (λ _. IsKept (doc_view doc.new)) }

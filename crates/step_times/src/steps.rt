@@ -1,7 +1,8 @@
 //! The steps, one after another, each with its time.
 
-ghost use Rattle.std.specs.Prelude.{◌≤◌, IfOk};
-ghost use Rattle.solve_plain.specs.Files.{IsSound, file_of};
+ghost use Rattle.std.specs.Prelude.{IfOk};
+ghost use Rattle.snx_blocks.specs.Documents.{IsValid};
+ghost use Rattle.snx_blocks.specs.Views.{doc_view};
 
 use crate::tables::strongly_diagonal;
 use anyhow::{Result, bail};
@@ -10,9 +11,11 @@ use chol_guess::{midpoint_square, pilot};
 use enclosure_check::{check, start_vector};
 use equil::{Working, working};
 use interval_word::Iv;
-use plain_rows::{Plain, read_plain};
-use solve_plain::{file_stack, solve};
-use std::alloc::Global;
+use neq_stack::Neq;
+use param_ids::Scales;
+use recover_neq::recover;
+use snx_blocks::{Doc, read_doc};
+use stack_rules::certify;
 use std::fs::{self, Files};
 use std::thread::Threads;
 use std::time::{Clock, Instant};
@@ -60,17 +63,17 @@ pub fn table_steps<R: Threads + Sync + Clock + Print + AllocGlobal>(
     working_steps(rt, &w, is_quiet)
 }
 
-/// The file of a text in the plain form.
-fn file_in(alloc: Global, text: &[u8]) -> Result<Plain>
-    ensures { IfOk result (λ file. IsSound (file_of file)) }
+/// The document that a text is.
+fn doc_in<R: Threads + Sync + AllocGlobal>(rt: &R, text: &[u8]) -> Result<Doc>
+    ensures { IfOk result (λ doc. IsValid (doc_view doc)) }
 {
-    match read_plain(alloc, text)? {
-        Some(file) => Ok(file),
-        None => bail!("the file isn't in the plain form"),
+    if text.len() > 67_108_864 {
+        bail!("the file has more than 64 MiB");
     }
+    Ok(read_doc(rt, rt.alloc(), text)?)
 }
 
-/// The steps of a file in the plain form, and all of them once more after its reading.
+/// The steps of a SINEX file, and those of its normal equations once more together.
 pub fn file_steps<R: Threads + Sync + Clock + Files + Print + AllocGlobal>(
     rt: &R,
     name: &str,
@@ -79,18 +82,29 @@ pub fn file_steps<R: Threads + Sync + Clock + Files + Print + AllocGlobal>(
     let alloc = rt.alloc();
     let start = Instant::now(rt)?;
     let text = fs::read(rt, name)?;
-    let file = file_in(alloc, &text)?;
+    let doc = doc_in(rt, &text)?;
     let read = start.elapsed(rt)?.as_millis();
     let start = Instant::now(rt)?;
-    let s = file_stack(alloc, &file)?;
-    let w = working(alloc, &s.table, &s.right)?;
+    let scales = Scales::standard(alloc)?;
+    let neq: Neq<16> = recover(alloc, &doc, &scales)?;
+    let recover = start.elapsed(rt)?.as_millis();
+    let start = Instant::now(rt)?;
+    let w = working(alloc, &neq.table, &neq.right)?;
     let tables = start.elapsed(rt)?.as_millis();
     working_steps(rt, &w, is_quiet)?;
     let start = Instant::now(rt)?;
-    let _solved = solve(rt, alloc, &file, 1)?;
+    let _solved = certify(
+        rt,
+        alloc,
+        &neq.table,
+        &neq.right,
+        &neq.apriori,
+        &neq.scales,
+        1,
+    )?;
     let solve = start.elapsed(rt)?.as_millis();
     if !is_quiet {
-        println!(rt; "read {read} tables {tables} solve {solve}")?;
+        println!(rt; "read {read} recover {recover} tables {tables} solve {solve}")?;
     }
     Ok(())
 }

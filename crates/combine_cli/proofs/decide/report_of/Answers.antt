@@ -1,25 +1,25 @@
-use Rattle.solve_plain.specs.Files.{file_of}
-use Rattle.solve_plain.specs.Solving.{numbers_in}
-use Rattle.solve_plain.proofs.Sound.{plain_sound}
+use Rattle.std.proofs.Common.{◌∙◌, ℕ, List, Ok, ap, subst}
+use Rattle.neq_stack.specs.Neqs.{neq_view}
+use Rattle.stack_rules.specs.Rules.{IsAnswer, IsRefusedWith, numbers_in}
+use Rattle.combine_cli.specs.Report.{numbers_report}
+use Rattle.combine_cli.proofs.Sound.{same_stack, certified_by_names}
 use Rattle.combine_cli.proofs.Verdicts.{told_cause}
 use Rattle.combine_cli.proofs.decide.report_of.Goals as goal
 
-pub solve-requires-clause-sound : goal.solve-requires-clause-sound
-solve-requires-clause-sound g c κs within = plain_sound c.args.text.now (file_of c.args.plain.now) c.requires
-
 pub returns-in-Ok-report-clause-report : goal.returns-in-Ok-report-clause-report
-returns-in-Ok-report-clause-report g c = record {
-  plain = file_of c.args.plain.now;
-  numbers = numbers_in c.in-Ok.solved;
-  reads = c.requires;
-  answers = c.in-Ok.ensures.solved;
-  tells = rw c.deref.ensures.value at c.in-Ok-report.ensures;
-  exact_exists = c.in-Ok.ensures.exact_exists;
-  exact = c.in-Ok.ensures.exact;
-  certified = c.in-Ok.ensures.certified;
-}
+returns-in-Ok-report-clause-report g c =
+    let neq = c.args.neq.now in
+    let numbers = numbers_in c.in-Ok.solved in
+    let same = same_stack neq.table c.deref.result.now neq.right.items c.deref-2.result.now neq.apriori.items c.deref-3.result.now neq.scales.items c.deref.ensures.value c.deref-2.ensures.value c.deref-3.ensures.value in
+    record {
+      numbers = numbers;
+      answers = subst (λ s. IsAnswer s (Ok numbers)) same c.in-Ok.ensures.answer;
+      tells = c.in-Ok-report.ensures ∙ ap (λ (units : List (List ℕ)). numbers_report neq.names units numbers) c.deref-in-Ok.ensures.value;
+      certified = certified_by_names (neq_view neq) numbers _ same c.requires.rows c.in-Ok.ensures.certified;
+    }
 
-pub returns-clause-refused : goal.returns-clause-refused
-returns-clause-refused g c =
-    told_cause c.refusal_for.result c.args.from.now (file_of c.args.plain.now) c.in-Err.cause c.in-Err.ensures.refused
-    (rw c.deref-in-Err.ensures.value at c.refusal_for.ensures.told)
+pub returns-in-Err-clause-refused : goal.returns-in-Err-clause-refused
+returns-in-Err-clause-refused g c =
+    let neq = c.args.neq.now in
+    let same = same_stack neq.table c.deref.result.now neq.right.items c.deref-2.result.now neq.apriori.items c.deref-3.result.now neq.scales.items c.deref.ensures.value c.deref-2.ensures.value c.deref-3.ensures.value in
+    told_cause c.refusal_of_rules.result (neq_view neq) c.in-Err.cause (subst (λ s. IsRefusedWith s c.in-Err.cause) same c.in-Err.ensures.refused) c.refusal_of_rules.ensures.told

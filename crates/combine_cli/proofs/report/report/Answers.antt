@@ -1,4 +1,4 @@
-use Rattle.std.proofs.Common.{◌∙◌, ap, flat_map, length, List}
+use Rattle.std.proofs.Common.{◌∙◌, ap, sym, flat_map, List}
 use Rattle.bounds_report.specs.declared.numbers.Printed.{Printed}
 use Rattle.combine_cli.specs.Report.{bounds_lines}
 use Rattle.combine_cli.proofs.Texts.{length-bounds_lines, report_is, vec_is}
@@ -6,10 +6,11 @@ use Rattle.combine_cli.proofs.report.report.Goals as goal
 
 pub returns : goal.returns
 returns c =
-    let rows = c.args.rows.now in
+    let names = c.args.names.now in
+    let units = c.args.units.now in
     let numbers = c.args.solved.now.rows.items in
     vec_is c.framed.result _ _
-    (report_is _ _ _ (length rows) _ _ (bounds_lines 0 rows numbers) (c.as_str.ensures.value ∙ c.in_ok-certificate.ensures)
-    (c.deref-2.ensures.value ∙ c.in_ok-lines.ensures ∙ ap (λ (ns : List Printed). flat_map (λ line. line) (bounds_lines 0 rows ns)) c.deref.ensures.value)
-    (length-bounds_lines 0 rows numbers c.requires))
+    (report_is _ _ _ c.len.result _ _ (bounds_lines 1 names units numbers) (c.as_str.ensures.value ∙ c.in_ok-certificate.ensures)
+    (c.deref-2.ensures.value ∙ c.in_ok-lines.ensures ∙ ap (λ (ns : List Printed). flat_map (λ line. line) (bounds_lines 1 names units ns)) c.deref.ensures.value)
+    (length-bounds_lines 1 names units numbers c.requires.units c.requires.numbers ∙ sym c.len.ensures.value))
     c.framed.ensures

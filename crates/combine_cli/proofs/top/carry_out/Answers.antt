@@ -1,7 +1,7 @@
 use Rattle.std.proofs.Common.{◌≢◌, ℕ, map, string_bytes, arith}
 use Rattle.desk_io.specs.Outputs.{named_text}
 use Rattle.combine_cli.specs.Refusals.{status_of}
-use Rattle.combine_cli.proofs.RunLaws.{on_err, done_writing, done_saying, planned_slice, planned_differ, certified_writing, cut_before, cut_writing, cut_saying, untouched_by_writing}
+use Rattle.combine_cli.proofs.RunLaws.{on_err, done_writing, done_saying, planned_slice, planned_differ, certified_writing, cut_before, cut_writing, cut_saying, untouched_by_writing, said_by_writing}
 use Rattle.combine_cli.proofs.top.carry_out.Goals as goal
 
 pub returns-in_err-write_outputs-in-Ok-clause-cut : goal.returns-in_err-write_outputs-in-Ok-clause-cut
@@ -45,3 +45,11 @@ returns-clause-done g c = λ tells.
 
 pub returns-clause-certified : goal.returns-clause-certified
 returns-clause-certified g c = λ tells zero. absurd (c.status.ensures.refused zero)
+
+pub returns-in_err-write_outputs-in-Ok-clause-said : goal.returns-in_err-write_outputs-in-Ok-clause-said
+returns-in_err-write_outputs-in-Ok-clause-said g c = λ tells.
+    said_by_writing (map named_text c.deref.result.now) _ _ _ c.write_outputs.result (c.in-Ok.ensures.keeps tells) (c.write_outputs.ensures.content tells)
+
+pub returns-in-Ok-clause-said : goal.returns-in-Ok-clause-said
+returns-in-Ok-clause-said g c = λ tells.
+    said_by_writing (map named_text c.deref.result.now) _ _ _ c.write_outputs.result (c.in-Ok.ensures.keeps tells) (c.write_outputs.ensures.content tells)

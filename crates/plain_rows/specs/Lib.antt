@@ -1,5 +1,0 @@
-pub mod Blocks
-pub mod Cuts
-pub mod Justified
-pub mod Lines
-pub mod Plain
