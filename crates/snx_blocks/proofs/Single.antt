@@ -1,13 +1,11 @@
 -- A text has one document at most or one first bad line, and never both.
 use Rattle.std.proofs.Common.{◌≡◌, ◌∙◌, ℕ, List, Option, Some, None, Result, Ok, sym, subst}
-use Rattle.std.specs.Option.{ok_or}
 use Rattle.stated_order.specs.Steps.{IsOne, Then, Through}
 use Rattle.stated_order.proofs.StepLaws.{then_is_one, through_is_one, renamed_is_one}
 use Rattle.snx_lines.specs.Lines.{PlainLine, lines_in}
 use Rattle.snx_lines.specs.Framing.{PlainBlock, PlainFraming}
 use Rattle.snx_lines.proofs.Alone.{one_framing}
 use Rattle.snx_rows.specs.Rows.{fault_at}
-use Rattle.snx_rows.specs.declared.causes.Cause.TheVariants as causes
 use Rattle.snx_rows.specs.declared.causes.LineFault.{LineFault}
 use Rattle.snx_rows.specs.declared.rows.Row.{Row}
 use Rattle.snx_rows.specs.declared.rows.Shape.TheVariants as shapes
@@ -18,7 +16,7 @@ use Rattle.snx_matrices.proofs.Single.{matrix_is_one}
 use Rattle.snx_sites.specs.Sites.{AreSites, AreEpochs}
 use Rattle.snx_matrices.specs.declared.elements.Heading.{Heading}
 use Rattle.snx_sites.proofs.Alone.{sites_are_one, epochs_are_one}
-use Rattle.snx_blocks.specs.Documents.{PlainMatrix, PlainDoc, Headed, empty_doc, once, IsFirst, IsMatrixTitle, IsMatrix, IsSectionRead, IsReadOrPassed, IsBlockRead, whole, IsDocument}
+use Rattle.snx_blocks.specs.Documents.{PlainMatrix, PlainDoc, empty_doc, once, IsFirst, IsMatrixTitle, IsMatrix, IsSectionRead, IsReadOrPassed, IsBlockRead, whole, IsDocument}
 use Rattle.snx_blocks.specs.Sections.{section_of}
 use Rattle.snx_blocks.specs.declared.sections.Section.{Section}
 use Rattle.snx_blocks.specs.declared.sections.Section.TheVariants.{Estimates, Apriori, Vector, EstimateMatrix, AprioriMatrix, NormalMatrix, Sites, Epochs}

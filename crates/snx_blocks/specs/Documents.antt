@@ -2,9 +2,9 @@
 --
 -- The text is read as it stands: block by block up to the line at which its frame breaks, if there is one; in a block the title
 -- first, then line by line. So the first bad line is the one with the least number.
-use Rattle.std.specs.Prelude.{◌≡◌, ◌≤◌, ◌^◌, ℕ, List, length, Option, Some, None, Result, Ok, Err, IfSome}
+use Rattle.std.specs.Prelude.{◌≡◌, ℕ, List, length, Option, Some, None, Result, Ok, Err, IfSome}
 use Rattle.std.specs.Option.{ok_or}
-use Rattle.stated_order.specs.Steps.{IsOne, Then, Renamed, Through}
+use Rattle.stated_order.specs.Steps.{Then, Renamed, Through}
 use Rattle.snx_lines.specs.Lines.{PlainLine, lines_in}
 use Rattle.snx_lines.specs.Framing.{PlainBlock, PlainFraming, IsFraming}
 use Rattle.snx_lines.specs.declared.blocks.FrameFault.{FrameFault}

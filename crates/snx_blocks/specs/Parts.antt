@@ -1,5 +1,5 @@
 -- What the parts of the reader answer. These definitions serve private functions.
-use Rattle.std.specs.Prelude.{◌≡◌, Bool, length, true, false, List, Option, Some, None, Result, IfSome}
+use Rattle.std.specs.Prelude.{Bool, length, true, false, List, Option, Some, None, Result, IfSome}
 use Rattle.stated_order.specs.Steps.{Then}
 use Rattle.snx_lines.specs.Lines.{PlainLine}
 use Rattle.snx_lines.specs.Framing.{PlainBlock}

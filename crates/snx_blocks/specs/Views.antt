@@ -1,5 +1,5 @@
 -- What the code holds, without where it lies in memory.
-use Rattle.std.specs.Prelude.{List, map}
+use Rattle.std.specs.Prelude.{map}
 use Rattle.std.specs.Option.{option_map}
 use Rattle.snx_sites.specs.Views.{site_view}
 use Rattle.snx_blocks.specs.Documents.{PlainMatrix, PlainDoc}
