@@ -6,12 +6,15 @@ use Rattle.desk_io.specs.Content.{File}
 use Rattle.desk_io.specs.Outputs.{NamedText}
 use Rattle.desk_io.specs.Whole.{reading}
 use Rattle.desk_io.specs.declared.whole.ReadError.TheVariants as errors
-use Rattle.param_ids.specs.Tables.{standard_scales}
+use Rattle.param_ids.specs.Tables.{ScaleMap, standard_scales}
 use Rattle.snx_blocks.specs.Documents.{PlainDoc, IsDocument}
+use Rattle.snx_blocks.proofs.Single.{document_is_one}
 use Rattle.neq_stack.specs.Neqs.{PlainNeq}
 use Rattle.recover_neq.specs.Recovery.{IsRecovered}
 use Rattle.recover_neq.specs.declared.RecoverFault.{RecoverFault}
+use Rattle.recover_neq.specs.declared.RecoverError.{RecoverError}
 use Rattle.recover_neq.specs.declared.RecoverError.TheVariants as recovery
+use Rattle.recover_neq.proofs.Alone.{recovered_is_one}
 use Rattle.stack_rules.specs.Rules.{IsAnswer}
 use Rattle.stack_rules.specs.declared.StackError.{StackError}
 use Rattle.stack_rules.specs.declared.StackError.TheVariants as causes
@@ -46,17 +49,11 @@ file_is_one name (Some file) one other (inl h) (inr k) = let a = h.0 in let b = 
 file_is_one name (Some file) one other (inr h) (inl k) = let a = h.0 in let b = k.0 in absurd (omega arith)
 file_is_one name (Some file) one other (inr h) (inr k) = h.1 ∙ sym k.1
 
-document_is_one : (text : List ℕ) → IsOne (IsDocument text)
-document_is_one text = ?
-
-recovered_is_one : (doc : PlainDoc) → IsOne (IsRecovered doc standard_scales)
-recovered_is_one doc = ?
-
 text_is_one : (name text : List ℕ) → IsOne (ReadsText name text)
 text_is_one name text = renamed_is_one (λ fault. Line name fault) (IsDocument text) (document_is_one text)
 
 recovery_is_one : (name : List ℕ) (doc : PlainDoc) → IsOne (Recovers name doc)
-recovery_is_one name doc = renamed_is_one (refusal_of_recovery name) (IsRecovered doc standard_scales) (recovered_is_one doc)
+recovery_is_one name doc = renamed_is_one (refusal_of_recovery name) (IsRecovered doc standard_scales) (recovered_is_one doc standard_scales)
 
 outcome_is_one : (names : FileNames) (neq : PlainNeq) → IsOne (Solves names neq)
 outcome_is_one names neq one other h k = h.2 ∙ ap (outcome_of names neq) (answer_is_one (stack_in neq) h.0 k.0 h.1 k.1) ∙ sym k.2
@@ -163,14 +160,15 @@ told_cause refusal neq cause (inr answer) e = λ a b. (cause, answer, e)
 told_cause refusal neq cause (inl memory) e = λ a b. let f : refusal ≡ Memory = e ∙ ap (refusal_of_rules neq.names) memory in absurd (a (ap status_of f))
 
 -- a cause of the recovery, told as its refusal
-pub recovery_told : (name from : List ℕ) (doc : PlainDoc) (fault : RecoverFault) (refusal : Refusal)
-    → (recovery.Fault fault ≡ recovery.Memory) ⊎ ((f : RecoverFault) × (recovery.Fault fault ≡ recovery.Fault f) × IsRecovered doc standard_scales (Err f))
+pub recovery_told : (name from : List ℕ) (doc : PlainDoc) (scales : ScaleMap) (cause : RecoverError) (fault : RecoverFault) (refusal : Refusal) → scales ≡ standard_scales → cause ≡ recovery.Fault fault
+    → (cause ≡ recovery.Memory) ⊎ ((f : RecoverFault) × (cause ≡ recovery.Fault f) × IsRecovered doc scales (Err f))
     → name ≡ from → refusal ≡ refusal_of_recovery name fault → Recovers from doc (Err refusal)
-recovery_told name from doc fault refusal (inl e) same told = absurd (cc)
-recovery_told name from doc fault refusal (inr h) same told =
-    let e = h.1 in
+recovery_told name from doc scales cause fault refusal standard is (inl e) same told = absurd (cc)
+recovery_told name from doc scales cause fault refusal standard is (inr h) same told =
+    let e : recovery.Fault h.0 ≡ recovery.Fault fault = sym h.1 ∙ is in
     let f : h.0 ≡ fault = cc in
-    (fault, subst (λ f. IsRecovered doc standard_scales (Err f)) f h.2, told ∙ ap (λ n. refusal_of_recovery n fault) same)
+    let refused = subst (λ f. IsRecovered doc scales (Err f)) f h.2 in
+    (fault, subst (λ s. IsRecovered doc s (Err fault)) standard refused, told ∙ ap (λ n. refusal_of_recovery n fault) same)
 
 -- ---- what is planned
 module _ (words : List (List ℕ)) (files : List ℕ → Option File) (names : FileNames) (text report : List ℕ) (outputs : List NamedText) (solve : AreSolve words names)

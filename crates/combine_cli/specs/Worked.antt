@@ -1,7 +1,7 @@
 -- Worked values, at which the laws of src/laws.rt tie the definitions.
 use Rattle.std.specs.Prelude.{◌∷◌, ℕ, ℤ, pos, negsuc, List, [], Some, None, codes}
 use Rattle.decimal_e.specs.Decimals.{Decimal}
-use Rattle.snx_epoch.specs.declared.Epoch.TheVariants.{At}
+use Rattle.snx_epoch.specs.declared.Epoch.TheVariants.{Never}
 use Rattle.param_ids.specs.Plain.{PlainId}
 use Rattle.snx_rows.specs.declared.rows.Row.{Row}
 use Rattle.snx_matrices.specs.declared.elements.Content.TheVariants.{Info}
@@ -18,9 +18,9 @@ four_thousand = record { mant = pos 4; exp = pos 3 }
 abbrev pub quarter : Decimal
 quarter = record { mant = pos 25; exp = negsuc 1 }
 
--- STAX of the station ABCD, point A, solution 1, on 2024-01-01, the day 19723 after 1970-01-01
+-- STAX of the station ABCD, point A, solution 1, of no moment
 abbrev pub worked_name : PlainId
-worked_name = record { kind = codes "STAX  "; code = codes "ABCD"; point = codes "A "; soln = codes "1   "; epoch = At (pos 19723) 0 }
+worked_name = record { kind = codes "STAX  "; code = codes "ABCD"; point = codes "A "; soln = codes "1   "; epoch = Never }
 
 -- the row of that name with this value
 abbrev pub worked_row : Decimal → Row

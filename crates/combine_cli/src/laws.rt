@@ -54,11 +54,11 @@ pub fn refusals_are_told()
     ensures frame { line_of (refusals.Line (codes "in") (record { line = 10; cause = causes.Frame frames.NoEnd })) ≡ codes "snxcomb: in:10 NoEnd\n" }
     ensures block { line_of (refusal_of_recovery (codes "in") (recovery.MissingBlock sections.Apriori)) ≡ codes "snxcomb: block file:in SOLUTION/APRIORI\n" }
     ensures unbuilt { line_of (refusal_of_recovery (codes "in") (recovery.MissingBlock sections.NormalMatrix)) ≡ codes "snxcomb: unbuilt in\n" }
-    ensures unmatched { line_of (refusal_of_recovery (codes "in") (recovery.Unmatched worked_name)) ≡ codes "snxcomb: unmatched file:in STAX/ABCD/A/1/24:001:00000\n" }
+    ensures unmatched { line_of (refusal_of_recovery (codes "in") (recovery.Unmatched worked_name)) ≡ codes "snxcomb: unmatched file:in STAX/ABCD/A/1/00:000:00000\n" }
     ensures empty { line_of (refusal_of_recovery (codes "in") recovery.Empty) ≡ codes "snxcomb: empty file:in\n" }
     ensures range { line_of (refusals.Range (places.File (codes "in")) worked_name worked_name)
-        ≡ codes "snxcomb: range file:in STAX/ABCD/A/1/24:001:00000 STAX/ABCD/A/1/24:001:00000\n" }
-    ensures pivot { line_of (refusals.Pivot places.Stack worked_name) ≡ codes "snxcomb: pivot stack STAX/ABCD/A/1/24:001:00000\n" }
+        ≡ codes "snxcomb: range file:in STAX/ABCD/A/1/00:000:00000 STAX/ABCD/A/1/00:000:00000\n" }
+    ensures pivot { line_of (refusals.Pivot places.Stack worked_name) ≡ codes "snxcomb: pivot stack STAX/ABCD/A/1/00:000:00000\n" }
     ensures no_words { (files : List ℕ → Option File) (outcome : Outcome) → IsVerdict [] files outcome → outcome ≡ Err refusals.Words }
     ensures no_file { (files : List ℕ → Option File) (from to : List ℕ) → from ≢ to → files from ≡ None
         → IsVerdict (codes "solve" ∷ from ∷ to ∷ []) files (Err (refusals.NoFile from)) }

@@ -1,5 +1,5 @@
 // The report of bounds, as text.
-ghost use Rattle.std.specs.Prelude.{◌≡◌, ◌++◌, ◌∷◌, ◌+◌, ◌<◌, ◌/◌, ◌%◌, ◌^◌, length, flat_map, IfOk, string_bytes, codes};
+ghost use Rattle.std.specs.Prelude.{◌≡◌, ◌++◌, ◌∷◌, ◌+◌, ◌<◌, ◌/◌, ◌%◌, ◌^◌, length, slice_get, Some, flat_map, IfOk, string_bytes, codes};
 ghost use Rattle.combine_cli.specs.Report.{units_text, bound_text, bounds_line, bounds_lines, certificate_line, numbers_report};
 ghost use Rattle.stack_rules.specs.Rules.{numbers_in};
 
@@ -53,6 +53,22 @@ fn bounds_line(
     Ok(line)
 }
 
+// The unit of row k, counted from 0.
+fn unit_of(units: &[[u8; 4]], k: usize) -> &[u8; 4]
+    requires { k < length units.now }
+    ensures { slice_get units.now k ≡ Some result.now }
+{
+    &units[k]
+}
+
+// The numbers of row k.
+fn printed_of(numbers: &[Printed], k: usize) -> &Printed
+    requires { k < length numbers.now }
+    ensures { slice_get numbers.now k ≡ Some result.now }
+{
+    &numbers[k]
+}
+
 // The lines of all rows, in the order of the names.
 fn bounds_lines(
     alloc: Global,
@@ -66,9 +82,9 @@ fn bounds_lines(
 {
     let mut text = Vec::new(alloc);
     for k in 0..names.len() {
-        let unit = units[k];
-        let printed = numbers[k];
-        let line = bounds_line(alloc, k + 1, names.at(k), &unit, &printed)?;
+        let unit = unit_of(units, k);
+        let printed = printed_of(numbers, k);
+        let line = bounds_line(alloc, k + 1, names.at(k), unit, printed)?;
         text.extend_from_slice(&line)?;
     }
     Ok(text)

@@ -18,8 +18,8 @@ returns-in-Ok-report-clause-report g c =
       certified = certified_by_names (neq_view neq) numbers _ same c.requires.rows c.in-Ok.ensures.certified;
     }
 
-pub returns-in-Err-clause-refused : goal.returns-in-Err-clause-refused
-returns-in-Err-clause-refused g c =
+pub returns-clause-refused : goal.returns-clause-refused
+returns-clause-refused g c =
     let neq = c.args.neq.now in
     let same = same_stack neq.table c.deref.result.now neq.right.items c.deref-2.result.now neq.apriori.items c.deref-3.result.now neq.scales.items c.deref.ensures.value c.deref-2.ensures.value c.deref-3.ensures.value in
     told_cause c.refusal_of_rules.result (neq_view neq) c.in-Err.cause (subst (λ s. IsRefusedWith s c.in-Err.cause) same c.in-Err.ensures.refused) c.refusal_of_rules.ensures.told
