@@ -83,7 +83,8 @@ pub(crate) fn new_matrix(
     block: &Block,
 ) -> Result<Matrix, DocError>
     requires { HasSoundRows (option_copied rows) }
-    ensures matrix { (before : Option PlainMatrix) → is_some before ≡ stood_before → Answers matrix_view (IsMatrix before (option_copied rows.entry) heading (block_view block.now)) result }
+    ensures matrix { (before : Option PlainMatrix) → is_some before ≡ stood_before
+        → Answers matrix_view (IsMatrix before (option_copied rows.entry) heading (block_view block.now)) result }
     ensures kept { IfOk result (λ matrix. IsMatrixOver (option_copied rows.entry) (matrix_view matrix)) }
 {
     match (stood_before, rows, heading) {

@@ -64,12 +64,7 @@ fn put_normal_matrix(alloc: Global, doc: &mut Doc, block: &Block) -> Result<(), 
 }
 
 /// Puts into the document what a block of this section says.
-fn put_section(
-    alloc: Global,
-    doc: &mut Doc,
-    section: Section,
-    block: &Block,
-) -> Result<(), DocError>
+fn put(alloc: Global, doc: &mut Doc, section: Section, block: &Block) -> Result<(), DocError>
     requires { IsKept (doc_view doc.old) }
     ensures reads { Answers (λ _. doc_view doc.new) (IsSectionRead section (doc_view doc.old) (block_view block.now)) result }
     ensures kept { IfOk result (λ _. IsKept (doc_view doc.new)) }
@@ -113,7 +108,7 @@ fn put_block(alloc: Global, doc: &mut Doc, block: &Block) -> Result<(), DocError
     ensures kept { IfOk result (λ _. IsKept (doc_view doc.new)) }
 {
     match section_of(block.name) {
-        Some(section) => put_section(alloc, doc, section, block),
+        Some(section) => put(alloc, doc, section, block),
         None => Ok(()),
     }
 }
