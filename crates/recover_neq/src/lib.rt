@@ -79,8 +79,10 @@ impl From<RecoverFault> for RecoverError {
 /// Each row of the right side has an a priori row of its name.
 fn all_matched(alloc: Global, apriori: &[Row], vector: &[Row]) -> Result<(), RecoverError>
     requires { AreSound Value apriori.now }
-    ensures ok { IfOk result (λ _. (blocks : Blocks) → blocks.apriori ≡ apriori.now → blocks.vector ≡ vector.now → Ok tt ≡ matched blocks) }
-    ensures refused { IfErr result (λ cause. (cause ≡ Memory) ⊎ ((fault : RecoverFault) × (cause ≡ Fault fault) × ((blocks : Blocks) → blocks.apriori ≡ apriori.now → blocks.vector ≡ vector.now → Err fault ≡ matched blocks))) }
+    ensures ok { IfOk result (λ _. (blocks : Blocks) → blocks.apriori ≡ apriori.now → blocks.vector ≡ vector.now
+        → Ok tt ≡ matched blocks) }
+    ensures refused { IfErr result (λ cause. (cause ≡ Memory) ⊎ ((fault : RecoverFault) × (cause ≡ Fault fault)
+        × ((blocks : Blocks) → blocks.apriori ≡ apriori.now → blocks.vector ≡ vector.now → Err fault ≡ matched blocks))) }
 {
     match first_unmatched(alloc, apriori, vector)? {
         Some(id) => Err(RecoverError::Fault(RecoverFault::Unmatched { id })),

@@ -15,7 +15,9 @@ const LIMIT: u128 = 10_000_000_000_000_000_000_000_000_000_000_000;
 fn first_past_in<const N: usize>(table: &SymBlock<N>, row: usize) -> Option<usize>
     requires within { row < table.now.size }
     requires few { row < 1000 }
-    ensures { MatchOption result (HoldsBelow (row + 1) (λ j. IsModest (word table.now row j))) (IsFirstFailure (row + 1) (λ j. IsModest (word table.now row j))) }
+    ensures { MatchOption result
+        (HoldsBelow (row + 1) (λ j. IsModest (word table.now row j)))
+        (IsFirstFailure (row + 1) (λ j. IsModest (word table.now row j))) }
 {
     for col in 0..row + 1 {
         if table.get(row, col).mag() > LIMIT {
@@ -27,7 +29,9 @@ fn first_past_in<const N: usize>(table: &SymBlock<N>, row: usize) -> Option<usiz
 
 /// Row by row up to the diagonal, the first interval that is too great.
 pub fn first_past<const N: usize>(table: &SymBlock<N>) -> Option<(usize, usize)>
-    ensures { MatchOption result (HoldsLower table.now.size (λ i j. IsModest (word table.now i j))) (λ place. IsFirstLowerFailure table.now.size (λ i j. IsModest (word table.now i j)) place.0 place.1) }
+    ensures { MatchOption result
+        (HoldsLower table.now.size (λ i j. IsModest (word table.now i j)))
+        (λ place. IsFirstLowerFailure table.now.size (λ i j. IsModest (word table.now i j)) place.0 place.1) }
 {
     for row in 0..table.size() {
         if let Some(col) = first_past_in(table, row) {
@@ -39,7 +43,9 @@ pub fn first_past<const N: usize>(table: &SymBlock<N>) -> Option<(usize, usize)>
 
 /// In a list, the first interval that is too great.
 pub fn first_past_of(words: &[Iv]) -> Option<usize>
-    ensures { MatchOption result (HoldsBelow (length words.now) (λ i. IsModest (slice_index_or words.now i zero_interval))) (IsFirstFailure (length words.now) (λ i. IsModest (slice_index_or words.now i zero_interval))) }
+    ensures { MatchOption result
+        (HoldsBelow (length words.now) (λ i. IsModest (slice_index_or words.now i zero_interval)))
+        (IsFirstFailure (length words.now) (λ i. IsModest (slice_index_or words.now i zero_interval))) }
 {
     for place in 0..words.len() {
         if words[place].mag() > LIMIT {

@@ -1,6 +1,7 @@
 //! The normal equations of three blocks.
 
 ghost use Rattle.std.specs.Prelude.{◌≡◌, All, IfOk, MatchResult, length};
+ghost use Rattle.param_ids.specs.Plain.{PlainId};
 ghost use Rattle.param_ids.specs.Tables.{IsScale};
 ghost use Rattle.snx_matrices.specs.Elements.{AreElementsOf};
 ghost use Rattle.snx_rows.specs.Blocks.{AreSound};
@@ -32,7 +33,8 @@ pub fn shown<const N: usize>(
     requires apriori { AreSound Value apriori.now }
     requires vector { AreSound Vector vector.now }
     requires cells { AreElementsOf (length vector.now) cells.now }
-    ensures shown { IfOk result (λ neq. IsShown (record { apriori = apriori.now; vector = vector.now; cells = cells.now }) scales.now (neq_view neq)) }
+    ensures shown { IfOk result
+        (λ neq. IsShown (record { apriori = apriori.now; vector = vector.now; cells = cells.now }) scales.now (neq_view neq)) }
     ensures scales { IfOk result (λ neq. All IsScale neq.scales.items) }
 {
     let names = names_of(alloc, vector)?;
@@ -58,7 +60,9 @@ pub fn shown<const N: usize>(
 pub fn modest<const N: usize>(neq: &Neq<N>) -> Result<(), RecoverFault>
     requires rows { neq.now.table.size ≡ length neq.now.names }
     requires right { length neq.now.right.items ≡ length neq.now.names }
-    ensures { MatchResult result (λ _. AreModest (neq_view neq.now)) (λ fault. (row : _) × (col : _) × (fault ≡ Range row col) × IsPast (neq_view neq.now) row col) }
+    ensures { MatchResult result
+        (λ _. AreModest (neq_view neq.now))
+        (λ fault. (row : PlainId) × (col : PlainId) × (fault ≡ Range row col) × IsPast (neq_view neq.now) row col) }
 {
     if let Some((row, col)) = first_past(&neq.table) {
         return Err(RecoverFault::Range {

@@ -38,7 +38,8 @@ pub fn names_of(alloc: Global, rows: &[Row]) -> Result<Names, AllocError>
 
 /// Whether a row has no a priori row of its name.
 fn is_unmatched(known: &Names, row: &Row) -> bool
-    ensures { (apriori : List Row) → IsPermutation (map (λ (a : Row). a.id) apriori) known.now → result ≡ lacks_value apriori row.now }
+    ensures { (apriori : List Row) → IsPermutation (map (λ (a : Row). a.id) apriori) known.now
+        → result ≡ lacks_value apriori row.now }
 {
     match known.find(&row.id) {
         Some(_) => false,

@@ -107,7 +107,8 @@ pub fn rights_of(
     requires lengths { length rows.now ≡ length exponents.now }
     requires scales { All IsScale exponents.now }
     ensures len { IfOk result (λ right. length right.items ≡ length rows.now) }
-    ensures shown { IfOk result (λ right. (i : ℕ) → i < length rows.now → StandsFor (right_at rows.now exponents.now i) (slice_index_or right.items i zero_interval)) }
+    ensures shown { IfOk result (λ right. (i : ℕ) → i < length rows.now
+        → StandsFor (right_at rows.now exponents.now i) (slice_index_or right.items i zero_interval)) }
 {
     let mut right = Vec::new(alloc);
     for place in 0..rows.len() {
