@@ -155,9 +155,7 @@ fn recovered(alloc: Global, from: &str, doc: &Doc) -> Result<Neq<16>, Refusal>
     let scales = Scales::standard(alloc)?;
     match recover(alloc, doc, &scales) {
         Ok(neq) => Ok(neq),
-        Err(RecoverError::Fault(fault)) => {
-            Err(refusal_of_recovery(named(alloc, from)?, &fault))
-        }
+        Err(RecoverError::Fault(fault)) => { Err(refusal_of_recovery(named(alloc, from)?, &fault)) }
         Err(RecoverError::Memory) => Err(Refusal::Memory),
     }
 }
@@ -213,11 +211,7 @@ fn refusal_of_rules(names: &Names, cause: StackError) -> Refusal
 }
 
 // The certified report of normal equations, or the refusal of the rules.
-fn report_of<R: Threads + Sync>(
-    rt: &R,
-    alloc: Global,
-    neq: &Neq<16>,
-) -> Result<Vec<u8>, Refusal>
+fn report_of<R: Threads + Sync>(rt: &R, alloc: Global, neq: &Neq<16>) -> Result<Vec<u8>, Refusal>
     requires { IsSound (neq_view neq.now) }
     ensures report { IfOk result (λ report. IsReportOf (neq_view neq.now) report.items) }
     ensures refused { IfErr result (IfTold (λ refusal. (cause : StackError) × IsAnswer (stack_in (neq_view neq.now)) (Err cause) × (refusal ≡ refusal_of_rules neq.now.names cause))) }

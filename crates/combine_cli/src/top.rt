@@ -81,9 +81,10 @@ fn say_memory<D: Desk>(desk: &mut D) -> u8
 /// Runs the command that the words name, and answers its status.
 ///
 /// The words are those of the command line after the program's name: `solve IN REPORT`. The status is 0 where REPORT was
-/// written; 2 where the words are no command; 3 where IN isn't there, is too long or isn't in the plain form; 6 where a
-/// number of it passes its range, or the rules don't certify it; 4 for want of memory; 5 where the desk's count of faults rose.
-/// Before 2, 3 and 6 the refusal's line was said whole and no file was created; IN is read to its end before REPORT is created.
+/// written; 2 where the words are no command; 3 where IN isn't there, is too long, has a bad line or lacks normal equations by
+/// name; 6 where a number of it passes its range, or the rules don't certify it; 4 for want of memory; 5 where the desk's count
+/// of faults rose. Before 2, 3 and 6 the refusal's line was said whole and no file was created; IN is read to its end before
+/// REPORT is created.
 pub fn run<R: Threads + Sync, D: Desk>(rt: &R, alloc: Global, words: &[String], desk: &mut D) -> u8
     ensures status { IsStatus result }
 
