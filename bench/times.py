@@ -3,11 +3,12 @@
 
     bench/times.py kernels [ROWS ..]    factor, columns and defects; the default is 300 and 900 rows
     bench/times.py solve [ROWS ..]      the whole program on files that bench/make_file.py writes; the default is 30, 300 and 900
+    bench/times.py read [ROWS ..]       reading such files, with one value on a matrix line and with three; the default is 900
 
 It proves and builds crates/step_times and the program first, and compiles bench/kernels.cpp with g++ -O2. Each command runs five
 times, in turn with the yardstick, and the least time of each step counts. Times are of the wall clock, in milliseconds; memory
 is the greatest resident set of the process, and at least this script's own, from which it starts. The columns are the pilot without its factor. The defects are the certificate whole, with
-its working copies, its errors and its radii.
+its working copies, its errors and its radii. Reading is beside bench/reading.cpp, which tests nothing of what it reads.
 """
 
 import os
@@ -95,17 +96,37 @@ def solve(program, solver, yardstick, sizes, folder):
         print(f"  the whole program {min(wholes):.0f}; the yardstick's loops {loops:.0f}; ratio {ratio}; memory {memory:.0f} MB")
 
 
+def read(program, yardstick, sizes, folder):
+    for rows in sizes:
+        for values in ("1", "3"):
+            file = folder / f"{rows}-{values}.snx"
+            with open(file, "w") as out:
+                subprocess.run([TOP / "bench" / "make_file.py", str(rows), values], stdout=out, check=True)
+            mine, theirs = [], []
+            for _ in range(RUNS):
+                mine.append(steps(program, ["file", str(file)])["read"])
+                theirs.append(1000 * numbers(run([yardstick, str(file)])[0])["read"])
+            ratio = min(mine) / min(theirs)
+            size = file.stat().st_size / 1e6
+            print(f"{rows} rows, {values} a line, {size:.1f} MB: {min(mine):.0f} ms, C++ {min(theirs):.0f} ms, ratio {ratio:.2f}")
+
+
+def compiled(folder, name):
+    subprocess.run(["g++", "-O2", "-o", folder / name, TOP / "bench" / f"{name}.cpp"], check=True)
+    return folder / name
+
+
 def main(what, sizes):
     with tempfile.TemporaryDirectory() as name:
         folder = pathlib.Path(name)
-        yardstick = folder / "kernels"
-        subprocess.run(["g++", "-O2", "-o", yardstick, TOP / "bench" / "kernels.cpp"], check=True)
         program = build("step_times", ["table", "3", "quiet"])
         if what == "kernels":
-            kernels(program, yardstick, sizes or [300, 900])
+            kernels(program, compiled(folder, "kernels"), sizes or [300, 900])
+        elif what == "read":
+            read(program, compiled(folder, "reading"), sizes or [900], folder)
         else:
             solver = build("snxcomb", ["solve", "data/two-stations.snx", "/dev/null"])
-            solve(program, solver, yardstick, sizes or [30, 300, 900], folder)
+            solve(program, solver, compiled(folder, "kernels"), sizes or [30, 300, 900], folder)
 
 
 if __name__ == "__main__":
