@@ -4,8 +4,6 @@
 #include <cstdio>
 #include <cstdlib>
 #include <cstring>
-#include <fstream>
-#include <iterator>
 #include <string>
 #include <vector>
 
@@ -27,8 +25,12 @@ static double field(const char *line, size_t length, size_t from, size_t to, boo
 
 int main(int, char **words) {
     auto start = std::chrono::steady_clock::now();
-    std::ifstream in(words[1], std::ios::binary);
-    std::string text((std::istreambuf_iterator<char>(in)), std::istreambuf_iterator<char>());
+    FILE *in = fopen(words[1], "rb");
+    fseek(in, 0, SEEK_END);
+    std::string text(ftell(in), ' ');
+    rewind(in);
+    if (fread(text.data(), 1, text.size(), in) != text.size()) return 1;
+    fclose(in);
     std::vector<Cell> cells;
     std::vector<double> rows;
     bool matrix = false;
@@ -39,8 +41,8 @@ int main(int, char **words) {
         size_t length = end ? end - line : text.size() - at;
         if (*line == '+') matrix = length > 30 && !memcmp(line, "+SOLUTION/NORMAL_EQUATION_MATRIX", 32);
         if (*line == ' ' && matrix) {
-            long row = strtol(std::string(line + 1, 5).c_str(), nullptr, 10);
-            long col = strtol(std::string(line + 7, 5).c_str(), nullptr, 10);
+            long row = strtol(line, nullptr, 10);
+            long col = strtol(line + 6, nullptr, 10);
             for (size_t k = 0; k < 3 && 13 + 22 * k < length; k++) {
                 double value = field(line, length, 14 + 22 * k, 34 + 22 * k, given);
                 if (given && value != 0) cells.push_back({row, col + static_cast<long>(k), value});
