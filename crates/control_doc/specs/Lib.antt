@@ -1,0 +1,6 @@
+pub mod Faults
+pub mod Texts
+pub mod Tables
+pub mod Plain
+pub mod Control
+pub mod Views
