@@ -22,7 +22,7 @@ use Rattle.blanks.specs.Blanks.{trimmed}
 use Rattle.snx_epoch.specs.declared.Epoch.{Epoch}
 use Rattle.control_doc.specs.Faults.{PlainFault, fault, or_fault, and_then, key_path, entry_path}
 use Rattle.control_doc.specs.Texts.{agency_text, file_text, group_text, header_text, letter, created_text, epoch_text_of_name, kind_of_name, code_of_name, point_of_name, soln_of_name, form_text, held_text, place_text, shown}
-use Rattle.control_doc.specs.Tables.{keys_of, only_keys, there, if_there, text_at, integer_at, table_at, tables_at, texts_at, text_lists_at, value_at, needed, given_or, Entry, entries}
+use Rattle.control_doc.specs.Tables.{keys_of, is_other, only_keys, there, if_there, text_at, integer_at, table_at, tables_at, texts_at, text_lists_at, needed, given_or, Entry, entries}
 use Rattle.control_doc.specs.Plain.{PlainPlan, PlainDatum, PlainReduction, PlainOutput, PlainRun, PlainControl}
 use Rattle.control_doc.specs.declared.faults.ControlCause.TheVariants as causes
 use Rattle.control_doc.specs.declared.plans.Form.TheVariants as forms
@@ -75,9 +75,17 @@ abbrev pub file_count : List Members → Result (List Members) PlainFault
 file_count [] = fault causes.Value (codes "file")
 file_count (first ∷ rest) = if nat_le (length (first ∷ rest)) 64 then Ok (first ∷ rest) else fault causes.TooMany (codes "file")
 
+-- the keys of the top table; another one is its own path
+abbrev pub no_other_top : Option (List ℕ) → Result (Unit {0}) PlainFault
+no_other_top None = Ok tt
+no_other_top (Some key) = fault causes.Key key
+
+abbrev pub top_keys : Members → Result (Unit {0}) PlainFault
+top_keys top = no_other_top (find (is_other (codes "output" ∷ codes "run" ∷ codes "file" ∷ codes "datum" ∷ codes "reduce" ∷ codes "scale" ∷ [])) (keys_of top))
+
 abbrev pub parts_in : Members → Result Parts PlainFault
 parts_in top =
-    and_then (top_keys (get_other top)) (λ known.
+    and_then (top_keys top) (λ known.
     and_then (and_then (there (codes "output") (get_member (codes "output") top)) (table_at (codes "output"))) (λ output.
     and_then (if_there no_members (table_at (codes "run")) (get_member (codes "run") top)) (λ run.
     and_then (and_then (and_then (there (codes "file") (get_member (codes "file") top)) (tables_at (codes "file"))) file_count) (λ files.
@@ -85,13 +93,6 @@ parts_in top =
     and_then (if_there [] (tables_at (codes "reduce")) (get_member (codes "reduce") top)) (λ reductions.
     and_then (and_then (if_there no_members (table_at (codes "scale")) (get_member (codes "scale") top)) (no_more_than 60 (codes "scale"))) (λ scale.
     Ok (record { output = output; run = run; files = files; datum = datum; reductions = reductions; scale = scale }))))))))
-  where
-    get_other : Members → Option (List ℕ)
-    get_other members = find (λ key. not (list_any (bytes_eq key) (codes "output" ∷ codes "run" ∷ codes "file" ∷ codes "datum" ∷ codes "reduce" ∷ codes "scale" ∷ []))) (keys_of members)
-
-    top_keys : Option (List ℕ) → Result (Unit {0}) PlainFault
-    top_keys None = Ok tt
-    top_keys (Some key) = fault causes.Key key
 
 -- ---- output
 abbrev pub output_path : List ℕ
@@ -118,15 +119,14 @@ abbrev pub worker_count : ℤ → Result ℕ PlainFault
 worker_count (pos n) = if nat_le 1 n && nat_le n 16 then Ok n else fault causes.Value (codes "run.workers")
 worker_count (negsuc n) = fault causes.Value (codes "run.workers")
 
--- a text that names something has a byte at least; which names there are is tested after all else
-abbrev pub some_text : List ℕ → Option (List ℕ)
-some_text [] = None
-some_text (byte ∷ rest) = Some (byte ∷ rest)
+-- a text that names something of another table; what it may name is tested after all else
+abbrev pub any_text : List ℕ → Option (List ℕ)
+any_text text = Some text
 
 abbrev pub run_in : Members → Result PlainRun PlainFault
 run_in members =
     and_then (only_keys run_path (codes "reference" ∷ codes "workers" ∷ []) members) (λ known.
-    and_then (given_or [] some_text run_path (codes "reference") members) (λ reference.
+    and_then (given_or [] any_text run_path (codes "reference") members) (λ reference.
     and_then (if_there 1 (λ value. and_then (integer_at (codes "run.workers") value) worker_count) (get_member (codes "workers") members)) (λ workers.
     Ok (record { reference = reference; workers = workers }))))
 
@@ -215,8 +215,8 @@ IsDatum (Some members) result = IsDatumIn members result
 -- ---- reductions
 -- what a reduction is of; at the end it is of nothing, and the key is passed over
 abbrev pub of_text : Place → Entry → Result (List ℕ) PlainFault
-of_text places.File entry = needed some_text entry.path (codes "of") entry.members
-of_text places.Group entry = needed some_text entry.path (codes "of") entry.members
+of_text places.File entry = needed any_text entry.path (codes "of") entry.members
+of_text places.Group entry = needed any_text entry.path (codes "of") entry.members
 of_text places.End entry = Ok []
 
 -- the name of five texts: type, code, point, solution and moment
@@ -282,13 +282,17 @@ scales_in members = and_then (scale_keys members) (λ known. scales_from members
 abbrev pub is_listed : List PlainPlan → List ℕ → Bool
 is_listed files name = list_any (λ (plan : PlainPlan). bytes_eq plan.name name) files
 
+-- a file without a group is in none that could be named
 abbrev pub is_group : List PlainPlan → List ℕ → Bool
-is_group files name = list_any (λ (plan : PlainPlan). bytes_eq plan.group name) files
+is_group files [] = false
+is_group files (byte ∷ rest) = list_any (λ (plan : PlainPlan). bytes_eq plan.group (byte ∷ rest)) files
 
 -- the reference is a listed file, if it is given
-abbrev pub reference_in : List PlainPlan → List ℕ → Result (Unit {0}) PlainFault
-reference_in files [] = Ok tt
-reference_in files (byte ∷ rest) = if is_listed files (byte ∷ rest) then Ok tt else fault causes.Value (codes "run.reference")
+abbrev pub listed_text : List PlainPlan → List ℕ → Option (Unit {0})
+listed_text files name = if is_listed files name then Some tt else None
+
+abbrev pub reference_in : List PlainPlan → Members → Result (Unit {0}) PlainFault
+reference_in files run = given_or tt (listed_text files) run_path (codes "reference") run
 
 -- a reduction at a file is of a listed one, and one at a group is of a group that a file has
 abbrev pub is_known : List PlainPlan → PlainReduction → Bool
@@ -314,7 +318,7 @@ IsControlOf top =
     Then (IsDatum parts.datum) (λ datum.
     Then (AreReductions parts.reductions) (λ reductions.
     Then (Is (scales_in parts.scale)) (λ scales.
-    Then (Is (reference_in files run.reference)) (λ referred.
+    Then (Is (reference_in files parts.run)) (λ referred.
     Then (Is (known_from 0 files reductions)) (λ known.
     Is (Ok (record { header = header; run = run; files = files; datum = datum; reductions = reductions; scales = scales })))))))))))
 

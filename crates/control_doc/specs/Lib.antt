@@ -4,3 +4,4 @@ pub mod Tables
 pub mod Plain
 pub mod Control
 pub mod Views
+pub mod Pieces

@@ -3,7 +3,7 @@ use Rattle.std.specs.Prelude.{◌+◌, ℕ, ℤ, Bool, not, List, [], ◌∷◌,
 use Rattle.std.specs.List.{find, list_any}
 use Rattle.std.specs.Option.{option_and_then}
 use Rattle.std.specs.Str.{bytes_eq}
-use Rattle.toml.specs.Data.{Data, string, integer, array, table, Items, no_items, item, Members, no_members, member, get_member}
+use Rattle.toml.specs.Data.{Data, as_str, as_integer, as_array, as_table, Items, no_items, item, Members, no_members, member, get_member}
 use Rattle.control_doc.specs.Faults.{PlainFault, fault, or_fault, and_then, key_path, entry_path}
 use Rattle.control_doc.specs.declared.faults.ControlCause.TheVariants as causes
 
@@ -35,58 +35,58 @@ if_there otherwise read (Some value) = read value
 
 -- ---- kinds
 abbrev pub text_at : List ℕ → Data → Result (List ℕ) PlainFault
-text_at path (string text) = Ok text
-text_at path other = fault causes.Kind path
+text_at path value = or_fault causes.Kind path (as_str value)
 
 abbrev pub integer_at : List ℕ → Data → Result ℤ PlainFault
-integer_at path (integer n) = Ok n
-integer_at path other = fault causes.Kind path
+integer_at path value = or_fault causes.Kind path (as_integer value)
 
 abbrev pub table_at : List ℕ → Data → Result Members PlainFault
-table_at path (table members) = Ok members
-table_at path other = fault causes.Kind path
+table_at path value = or_fault causes.Kind path (as_table value)
 
--- a list of tables, if all items are tables; a list of texts, if all are texts
-abbrev pub tables_of : Items → Option (List Members)
-tables_of no_items = Some []
-tables_of (item (table members) rest) = option_and_then (λ others. Some (members ∷ others)) (tables_of rest)
-tables_of (item other rest) = None
+-- what each item is, if each is of a kind
+abbrev pub each_as : {X : Type 0} → (Data → Option X) → Items → Option (List X)
+each_as kind no_items = Some []
+each_as kind (item value rest) = option_and_then (λ x. option_and_then (λ others. Some (x ∷ others)) (each_as kind rest)) (kind value)
 
-abbrev pub texts_of : Items → Option (List (List ℕ))
-texts_of no_items = Some []
-texts_of (item (string text) rest) = option_and_then (λ others. Some (text ∷ others)) (texts_of rest)
-texts_of (item other rest) = None
+-- a list of tables, a list of texts, and a list of lists of texts
+abbrev pub as_tables : Data → Option (List Members)
+as_tables value = option_and_then (each_as as_table) (as_array value)
 
--- a list of lists of texts
-abbrev pub text_lists_of : Items → Option (List (List (List ℕ)))
-text_lists_of no_items = Some []
-text_lists_of (item (array items) rest) = option_and_then (λ texts. option_and_then (λ others. Some (texts ∷ others)) (text_lists_of rest)) (texts_of items)
-text_lists_of (item other rest) = None
+abbrev pub as_texts : Data → Option (List (List ℕ))
+as_texts value = option_and_then (each_as as_str) (as_array value)
+
+abbrev pub as_text_lists : Data → Option (List (List (List ℕ)))
+as_text_lists value = option_and_then (each_as as_texts) (as_array value)
 
 -- the same at a key: the kind of the whole value is tested, its inner items too
 abbrev pub tables_at : List ℕ → Data → Result (List Members) PlainFault
-tables_at path (array items) = or_fault causes.Kind path (tables_of items)
-tables_at path other = fault causes.Kind path
+tables_at path value = or_fault causes.Kind path (as_tables value)
 
 abbrev pub texts_at : List ℕ → Data → Result (List (List ℕ)) PlainFault
-texts_at path (array items) = or_fault causes.Kind path (texts_of items)
-texts_at path other = fault causes.Kind path
+texts_at path value = or_fault causes.Kind path (as_texts value)
 
 abbrev pub text_lists_at : List ℕ → Data → Result (List (List (List ℕ))) PlainFault
-text_lists_at path (array items) = or_fault causes.Kind path (text_lists_of items)
-text_lists_at path other = fault causes.Kind path
+text_lists_at path value = or_fault causes.Kind path (as_text_lists value)
 
 -- ---- values
--- a text that has the value that is asked for, at a key
-abbrev pub value_at : {X : Type 0} → (List ℕ → Option X) → List ℕ → Data → Result X PlainFault
-value_at value path given = and_then (text_at path given) (λ text. or_fault causes.Value path (value text))
+-- the text at a key of a table, which must be there; and one that need not
+abbrev pub text_needed : List ℕ → List ℕ → Members → Result (List ℕ) PlainFault
+text_needed table_path key members = and_then (there (key_path table_path key) (get_member key members)) (text_at (key_path table_path key))
 
--- the value of a key of a table, which must be there; and one that need not
+abbrev pub text_given : List ℕ → List ℕ → Members → Result (Option (List ℕ)) PlainFault
+text_given table_path key members = if_there None (λ value. and_then (text_at (key_path table_path key) value) (λ text. Ok (Some text))) (get_member key members)
+
+-- the value of a text, if it has the one that is asked for; and what stands for it where there is none
+abbrev pub value_or : {X : Type 0} → X → (List ℕ → Option X) → List ℕ → Option (List ℕ) → Result X PlainFault
+value_or otherwise value path None = Ok otherwise
+value_or otherwise value path (Some text) = or_fault causes.Value path (value text)
+
+-- the value of a key of a table, whose text must be there; and of one whose text need not
 abbrev pub needed : {X : Type 0} → (List ℕ → Option X) → List ℕ → List ℕ → Members → Result X PlainFault
-needed value table_path key members = and_then (there (key_path table_path key) (get_member key members)) (value_at value (key_path table_path key))
+needed value table_path key members = and_then (text_needed table_path key members) (λ text. or_fault causes.Value (key_path table_path key) (value text))
 
 abbrev pub given_or : {X : Type 0} → X → (List ℕ → Option X) → List ℕ → List ℕ → Members → Result X PlainFault
-given_or otherwise value table_path key members = if_there otherwise (value_at value (key_path table_path key)) (get_member key members)
+given_or otherwise value table_path key members = and_then (text_given table_path key members) (value_or otherwise value (key_path table_path key))
 
 -- the tables of an array with their paths
 pub record Entry : Type 0 where

@@ -1,8 +1,9 @@
 -- What the code holds, without where it lies in memory; and what its calls answer.
-use Rattle.std.specs.Prelude.{ℕ, List, map, Option, Some, None, Result, Ok, Err, string_bytes, slice_index}
+use Rattle.std.specs.Prelude.{◌≡◌, ℕ, List, map, Option, Some, None, Result, Ok, Err, string_bytes, slice_index}
 use Rattle.std.specs.Option.{option_map}
 use Rattle.control_doc.specs.Faults.{PlainFault}
 use Rattle.control_doc.specs.Plain.{PlainPlan, PlainDatum, PlainReduction, PlainControl}
+use Rattle.control_doc.specs.declared.faults.ControlCause.{ControlCause}
 use Rattle.control_doc.specs.declared.faults.ControlFault.{ControlFault}
 use Rattle.control_doc.specs.declared.faults.ControlError.{ControlError}
 use Rattle.control_doc.specs.declared.faults.ControlError.TheVariants as errors
@@ -46,3 +47,8 @@ abbrev pub Answers : {T X : Type 0} → (T → X) → (Result X PlainFault → T
 Answers view IsResult (Ok x) = IsResult (Ok (view x))
 Answers view IsResult (Err (errors.Fault fault)) = IsResult (Err (fault_view fault))
 Answers view IsResult (Err errors.Memory) = Unit {0}
+
+-- the error is this fault, or want of memory
+abbrev pub IsFault : ControlError → ControlCause → List ℕ → Type 0
+IsFault (errors.Fault fault) cause path = (fault.cause ≡ cause) × (string_bytes fault.path ≡ path)
+IsFault errors.Memory cause path = Unit {0}
