@@ -1,1 +1,4 @@
 mod Items
+mod Chain
+mod Shorts
+mod FileSteps

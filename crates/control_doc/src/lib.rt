@@ -2,7 +2,9 @@
 #![tactic(auto)]
 
 mod arrays;
+mod decimals;
 mod faults;
+mod files;
 mod keys;
 mod output;
 mod parts;
