@@ -2,3 +2,4 @@ mod Items
 mod Chain
 mod Shorts
 mod FileSteps
+mod OneAnswer

@@ -5,3 +5,4 @@ pub mod Plain
 pub mod Control
 pub mod Views
 pub mod Pieces
+pub mod Single

@@ -6,12 +6,16 @@ mod decimals;
 mod faults;
 mod files;
 mod keys;
+mod laws;
 mod output;
 mod parts;
 mod plans;
 mod reading;
+mod single;
 mod texts;
 
 pub use faults::{ControlCause, ControlError, ControlFault};
+pub use laws::one_control;
 pub use plans::{Control, Datum, FilePlan, Form, Held, Place, Reduction, Site};
 pub use reading::read_control;
+pub use single::alone;
