@@ -2,4 +2,5 @@ mod Items
 mod Chain
 mod Shorts
 mod FileSteps
+mod Turns
 mod OneAnswer

@@ -15,7 +15,7 @@ ghost use Rattle.control_doc.specs.declared.plans.Held.TheVariants as held;
 
 use crate::decimals::weight;
 use crate::faults::{ControlCause, ControlError};
-use crate::keys::{fault_at, only_keys, text_given, text_needed};
+use crate::keys::{entry_path, fault_at, only_keys, text_given, text_needed};
 use crate::plans::{FilePlan, Form, Held};
 use crate::texts::{form_text, held_text, is_shown_in};
 use std::alloc::Global;
@@ -136,4 +136,17 @@ fn plan_in(
         form,
         held,
     })
+}
+
+/// The files that the tables say, in turn.
+pub(crate) fn plans_in(alloc: Global, tables: &[&Table]) -> Result<Vec<FilePlan>, ControlError>
+    ensures { Answers (λ plans. map plan_view plans.items) (spec.ArePlans (map (λ table. table_view table.now) tables.now)) result }
+{
+    let mut plans = Vec::new(alloc);
+    for k in 0..tables.len() {
+        let path = entry_path(alloc, "file", k)?;
+        let plan = plan_in(alloc, &plans, path.as_str(), tables[k])?;
+        plans.push(plan)?;
+    }
+    Ok(plans)
 }
