@@ -11,6 +11,7 @@ mod output;
 mod parts;
 mod plans;
 mod reading;
+mod scales;
 mod single;
 mod texts;
 
