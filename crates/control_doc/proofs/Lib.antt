@@ -4,3 +4,5 @@ mod Shorts
 mod FileSteps
 mod Turns
 mod OneAnswer
+mod SiteLists
+mod DatumSteps

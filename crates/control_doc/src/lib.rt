@@ -2,6 +2,7 @@
 #![tactic(auto)]
 
 mod arrays;
+mod datum;
 mod decimals;
 mod faults;
 mod files;

@@ -25,7 +25,7 @@ loop-k-preserved c =
     let named : c.as_str.result.now ≡ entry_path (codes "file") k = grind (arith, common_steps) in
     let grown : c.push.new.self.items ≡ c.loop-k.plans.items ++ (c.in_ok-plan.plan ∷ []) = c.in_ok-push.ensures.items in
     let turned = turn_more (codes "file") (λ (table : Bor (BTreeMap (String Global) Value)). table_view table.now) IsPlan ts k here here c.as_str.result.now (map plan_view c.loop-k.plans.items) (plan_view c.in_ok-plan.plan) lt at named c.loop-k.invariant
-        (subst (λ (ps : List FilePlan). IsPlan (map plan_view ps) entry (Ok (plan_view c.in_ok-plan.plan))) seen c.in_ok-plan.ensures) in
+    (subst (λ (ps : List FilePlan). IsPlan (map plan_view ps) entry (Ok (plan_view c.in_ok-plan.plan))) seen c.in_ok-plan.ensures) in
     subst (λ ps. InTurn IsPlan [] (entries (codes "file") (map (λ (table : Bor (BTreeMap (String Global) Value)). table_view table.now) (take (k + 1) ts))) (Ok ps))
     (sym (ap (map plan_view) grown ∙ map_last plan_view c.loop-k.plans.items c.in_ok-plan.plan)) turned
 
