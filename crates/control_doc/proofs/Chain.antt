@@ -1,9 +1,9 @@
 -- One step and then the next, as a body with `?` shows it.
-use Rattle.std.proofs.Common.{◌≡◌, ◌∙◌, ℕ, List, Result, Ok, Err, string_bytes, ap, sym}
+use Rattle.std.proofs.Common.{◌≡◌, ◌∙◌, ℕ, List, Result, Ok, Err, string_bytes, ap, sym, subst}
 use Rattle.stated_order.specs.Steps.{Then}
 use Rattle.stated_order.proofs.StepLaws.{then_gives, then_stops}
 use Rattle.control_doc.specs.Control.{Is}
-use Rattle.control_doc.specs.Faults.{PlainFault, fault}
+use Rattle.control_doc.specs.Faults.{PlainFault, fault, and_then}
 use Rattle.control_doc.specs.Views.{Answers, IsFault, fault_view}
 use Rattle.control_doc.specs.declared.faults.ControlCause.{ControlCause}
 use Rattle.control_doc.specs.declared.faults.ControlError.{ControlError}
@@ -27,3 +27,13 @@ faulty {X = X} v f cause path (errors.Fault x) is (c, p) =
     let make : ControlCause → List ℕ → Result X PlainFault = λ c p. Err (record { cause = c; path = p }) in
     ap (λ y. make y (string_bytes x.path)) c ∙ ap (make cause) p ∙ sym is
 faulty v f cause path errors.Memory is h = tt
+
+-- the same of steps that a function says
+pub and_goes : {T X U Y : Type 0} (v : T → X) (w : U → Y) (f : Result X PlainFault) (next : X → Result Y PlainFault) (t : T) (r : Result U ControlError)
+    → Is f (Ok (v t)) → Answers w (Is (next (v t))) r → Answers w (Is (and_then f next)) r
+and_goes v w f next t r given onward = subst (λ g. Answers w (Is (and_then g next)) r) given onward
+
+pub and_stops : {T X U Y : Type 0} (v : T → X) (w : U → Y) (f : Result X PlainFault) (next : X → Result Y PlainFault) (e : ControlError)
+    → Answers v (Is f) (let r : Result T ControlError = Err e in r) → Answers w (Is (and_then f next)) (let r : Result U ControlError = Err e in r)
+and_stops v w f next (errors.Fault fault) refused = ap (λ g. and_then g next) refused
+and_stops v w f next errors.Memory refused = tt

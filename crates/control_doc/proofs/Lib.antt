@@ -6,3 +6,4 @@ mod Turns
 mod OneAnswer
 mod SiteLists
 mod DatumSteps
+mod Fives

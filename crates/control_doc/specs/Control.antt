@@ -219,13 +219,14 @@ of_text places.File entry = needed any_text entry.path (codes "of") entry.member
 of_text places.Group entry = needed any_text entry.path (codes "of") entry.members
 of_text places.End entry = Ok []
 
+-- the name that five parts make, if all are there
+abbrev pub id_in : Option (List ℕ) → Option (List ℕ) → Option (List ℕ) → Option (List ℕ) → Option Epoch → Option PlainId
+id_in (Some kind) (Some code) (Some point) (Some soln) (Some epoch) = Some (record { kind = kind; code = code; point = point; soln = soln; epoch = epoch })
+id_in kind code point soln epoch = None
+
 -- the name of five texts: type, code, point, solution and moment
 abbrev pub id_of : List (List ℕ) → Option PlainId
 id_of (kind ∷ code ∷ point ∷ soln ∷ epoch ∷ []) = id_in (kind_of_name kind) (code_of_name code) (point_of_name point) (soln_of_name soln) (epoch_text_of_name epoch)
-  where
-    id_in : Option (List ℕ) → Option (List ℕ) → Option (List ℕ) → Option (List ℕ) → Option Epoch → Option PlainId
-    id_in (Some kind) (Some code) (Some point) (Some soln) (Some epoch) = Some (record { kind = kind; code = code; point = point; soln = soln; epoch = epoch })
-    id_in kind code point soln epoch = None
 id_of other = None
 
 -- the parameter of a reduction is none that one before it names

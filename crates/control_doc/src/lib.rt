@@ -12,6 +12,7 @@ mod output;
 mod parts;
 mod plans;
 mod reading;
+mod reductions;
 mod scales;
 mod single;
 mod texts;

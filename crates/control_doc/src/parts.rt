@@ -1,6 +1,6 @@
 //! The top table, and the table of the run.
 
-ghost use Rattle.std.specs.Prelude.{◌≡◌, List, [], map, length, option_map, codes, string_bytes, Ok, None, Some};
+ghost use Rattle.std.specs.Prelude.{◌≡◌, ◌≤◌, List, [], map, length, option_map, codes, string_bytes, Ok, None, Some, IfOk};
 ghost use Rattle.toml.specs.Data.{no_members, get_member};
 ghost use Rattle.toml.specs.View.{view, table_view};
 ghost use Rattle.control_doc.specs.Control.{Is, Parts, parts_in, top_keys, file_count, no_more_than, any_text, run_path, run_in, worker_count};
@@ -116,7 +116,8 @@ fn key_count(table: &Table) -> usize
 }
 
 fn few<'a>(alloc: Global, scale: &'a Table) -> Result<&'a Table, ControlError>
-    ensures { Answers (λ table. table_view table.now) (Is (no_more_than 60 (codes "scale") (table_view scale.now))) result }
+    ensures value { Answers (λ table. table_view table.now) (Is (no_more_than 60 (codes "scale") (table_view scale.now))) result }
+    ensures few { IfOk result (λ table. length (keys_of (table_view table.now)) ≤ 60) }
 {
     if key_count(scale) > MOST_SCALES {
         return Err(fault(alloc, ControlCause::Value, "scale"));
@@ -130,7 +131,8 @@ fn scale_table<'a>(
     empty: &'a Table,
 ) -> Result<&'a Table, ControlError>
     requires { table_view empty.now ≡ no_members }
-    ensures { Answers (λ table. table_view table.now) (Is (and_then (if_there no_members (table_at (codes "scale")) (get_member (codes "scale") (table_view top.now))) (no_more_than 60 (codes "scale")))) result }
+    ensures value { Answers (λ table. table_view table.now) (Is (and_then (if_there no_members (table_at (codes "scale")) (get_member (codes "scale") (table_view top.now))) (no_more_than 60 (codes "scale")))) result }
+    ensures few { IfOk result (λ table. length (keys_of (table_view table.now)) ≤ 60) }
 {
     let scale = table_or(alloc, top, empty, "scale")?;
     few(alloc, scale)
@@ -155,7 +157,8 @@ pub(crate) fn parts_in<'a>(
     empty: &'a Table,
 ) -> Result<TopParts<'a>, ControlError>
     requires { table_view empty.now ≡ no_members }
-    ensures { Answers parts_view (Is (parts_in (table_view top.now))) result }
+    ensures value { Answers parts_view (Is (parts_in (table_view top.now))) result }
+    ensures few { IfOk result (λ parts. length (keys_of (table_view parts.scale.now)) ≤ 60) }
 {
     top_keys(alloc, top)?;
     let output = output_table(alloc, top)?;
