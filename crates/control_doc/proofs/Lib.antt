@@ -6,4 +6,6 @@ mod Turns
 mod OneAnswer
 mod SiteLists
 mod DatumSteps
+mod WholeSteps
 mod Fives
+mod TextSteps
