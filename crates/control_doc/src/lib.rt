@@ -15,6 +15,8 @@ mod reading;
 mod reductions;
 mod scales;
 mod single;
+#[cfg(test)]
+mod tests;
 mod texts;
 
 pub use faults::{ControlCause, ControlError, ControlFault};

@@ -73,11 +73,7 @@ fn known_from(
 }
 
 /// The control that a table says. A table that need not be there is the empty one.
-fn control_of<'a>(
-    alloc: Global,
-    top: &'a Table,
-    empty: &'a Table,
-) -> Result<Control, ControlError>
+fn control_of<'a>(alloc: Global, top: &'a Table, empty: &'a Table) -> Result<Control, ControlError>
     requires { table_view empty.now ≡ no_members }
     ensures { Answers control_view (IsControlOf (table_view top.now)) result }
 {

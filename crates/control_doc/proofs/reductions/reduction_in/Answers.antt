@@ -31,9 +31,9 @@ returns-in_err-id c =
     let seen : c.deref.result.now ≡ c.in_ok-texts.texts.items = grind (arith, common_steps) in
     let from = err_from_is_err_and c.from_residual-in_err-id.result c.from_residual-in_err-id.ensures.1 in
     let id_stops : Answers (λ (id : PlainId). id) (spec.Is (and_then (or_fault causes.Value param (spec.id_of (see c.in_ok-texts.texts.items))) (spec.new_id before param))) unnamed =
-        subst (λ ts. Answers (λ (id : PlainId). id) (spec.Is (and_then (or_fault causes.Value param (spec.id_of (see ts))) (spec.new_id before param))) unnamed) seen c.in_err-id.ensures in
+    subst (λ ts. Answers (λ (id : PlainId). id) (spec.Is (and_then (or_fault causes.Value param (spec.id_of (see ts))) (spec.new_id before param))) unnamed) seen c.in_err-id.ensures in
     let texts_stop = and_goes (λ (texts : Vec (Bor (List ℕ)) Global). see texts.items) (λ (id : PlainId). id) (and_then (there param (get_member (codes "param") members)) (texts_at param))
-        (λ texts. and_then (or_fault causes.Value param (spec.id_of texts)) (spec.new_id before param)) c.in_ok-texts.texts unnamed c.in_ok-texts.ensures id_stops in
+    (λ texts. and_then (or_fault causes.Value param (spec.id_of texts)) (spec.new_id before param)) c.in_ok-texts.texts unnamed c.in_ok-texts.ensures id_stops in
     rw (from.1, from.2)
     (and_goes (λ (x : Unit {0}). x) reduction_view (only_keys c.args.path.now (codes "at" ∷ codes "of" ∷ codes "param" ∷ []) members) _ c.in_ok-only_keys.field-0 refused c.in_ok-only_keys.ensures
     (and_goes (λ (x : Place). x) reduction_view (needed place_text c.args.path.now (codes "at") members) _ c.in_ok-place.place refused c.in_ok-place.ensures
