@@ -1,0 +1,11 @@
+mod Items
+mod Chain
+mod Shorts
+mod FileSteps
+mod Turns
+mod OneAnswer
+mod SiteLists
+mod DatumSteps
+mod WholeSteps
+mod Fives
+mod TextSteps

@@ -1,0 +1,9 @@
+use Rattle.std.proofs.Common.{◌≡◌, map, drop}
+use Rattle.toml.specs.Data.{as_table, as_str}
+use Rattle.toml.specs.View.{table_view, items_view}
+use Rattle.control_doc.specs.Tables.{each_as, as_texts}
+use Rattle.control_doc.proofs.Items.{before}
+use Rattle.control_doc.proofs.arrays.texts_of.Given as goal
+
+abbrev pub invariant-items : goal.invariant-items
+invariant-items l = before (map (λ text. text.now) l.texts.items) (each_as as_str (items_view (drop l.item-index l.items))) ≡ each_as as_str (items_view l.items)
