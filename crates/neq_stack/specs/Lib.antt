@@ -1,1 +1,4 @@
 pub mod Neqs
+pub mod ByName
+pub mod Stacks
+pub mod Systems
