@@ -1,45 +1,63 @@
 -- What a run that wrote its report promises.
-use Rattle.std.specs.Prelude.{◌≡◌, ℕ, true, List, length, Some, Option, Ok}
+use Rattle.std.specs.Prelude.{◌≡◌, ℕ, ℤ, true, List, ◌∷◌, [], map, length, Some, Option, Ok, Contains}
+use Rattle.stated_order.specs.Lists.{AreEach}
 use Rattle.desk_io.specs.Content.{File}
+use Rattle.desk_io.specs.Outputs.{NamedText}
 use Rattle.sys_model.specs.Scaling.{LiesInStack}
-use Rattle.sys_model.specs.Systems.{System}
 use Rattle.bounds_report.specs.Bounds.{AreCertified}
 use Rattle.bounds_report.specs.Printing.{numbers_at}
-use Rattle.param_ids.specs.Tables.{standard_scales}
-use Rattle.snx_blocks.specs.Documents.{PlainDoc, IsDocument}
+use Rattle.param_ids.specs.Tables.{ScaleMap}
+use Rattle.control_doc.specs.Plain.{PlainControl}
 use Rattle.neq_stack.specs.Neqs.{PlainNeq}
+use Rattle.neq_stack.specs.Stacks.{IsStackOf}
+use Rattle.neq_stack.specs.Systems.{NamedSystem, IsSumOf, over}
 use Rattle.recover_neq.specs.Exact.{IsExact}
-use Rattle.recover_neq.specs.Recovery.{IsRecovered}
 use Rattle.stack_rules.specs.Rules.{Numbers, IsAnswer}
-use Rattle.combine_cli.specs.Report.{numbers_report}
-use Rattle.combine_cli.specs.Verdict.{FileNames, AreSolve, stack_in}
+use Rattle.bounds_text.specs.Report.{numbers_report}
+use Rattle.run_inputs.specs.Words.{PlainCommand, AreCommand}
+use Rattle.run_inputs.specs.Inputs.{PlainInput, ReadsInputs}
+use Rattle.combine_cli.specs.Combination.{Part, AreParts, Texts, stack_in}
+use Rattle.combine_cli.specs.Verdict.{HasControl, outputs_with}
+
+-- The exact systems of the inputs: for each file one of its exact systems, and their sum by name.
+pub record IsExactOf (inputs : List PlainInput) (S : NamedSystem) : Type 0 where
+  pub systems : List NamedSystem
+  pub each : AreEach (λ (input : PlainInput) system. IsExact input.doc input.plan.weight system) inputs systems
+  pub sum : IsSumOf systems S
 
 -- each system in the stack of these normal equations has a solution, all its solutions are equal, each lies between the printed
 -- bounds, and the printed estimates leave at most the printed residual in every row
 abbrev pub AreCertifiedOf : PlainNeq → Numbers → Type 0
 AreCertifiedOf neq numbers = AreCertified (length neq.names) (stack_in neq).table (stack_in neq).scales (stack_in neq).apriori (numbers_at numbers.rows)
 
--- The report tells numbers of the text's normal equations, and they are certified: the text is a document, which has an exact
--- system over the names of its normal equations; each one lies in their intervals; and each system in these has its one solution
+-- The report tells numbers of the stack of the inputs' normal equations, whatever their groups, and these are certified: the inputs
+-- have an exact system; over the names of the stack each one lies in its intervals; and each system in these has its one solution
 -- between the printed bounds.
-pub record IsCertifiedReport (text report : List ℕ) : Type 0 where
-  pub doc : PlainDoc
+pub record IsCertifiedReport (scales : ScaleMap) (inputs : List PlainInput) (report : List ℕ) : Type 0 where
+  pub parts : List Part
   pub neq : PlainNeq
   pub numbers : Numbers
-  pub reads : IsDocument text (Ok doc)
-  pub recovers : IsRecovered doc standard_scales (Ok neq)
+  pub recovers : AreParts scales inputs (Ok parts)
+  pub stack : IsStackOf (map (λ (part : Part). part.neq) parts) neq
   pub answers : IsAnswer (stack_in neq) (Ok numbers)
   pub tells : report ≡ numbers_report neq.names neq.units numbers
-  pub exact_exists : (S : System) × IsExact doc neq.names S
-  pub exact : (S : System) → IsExact doc neq.names S → LiesInStack (length neq.names) (stack_in neq).table (stack_in neq).scales S
+  pub exact_exists : (S : NamedSystem) × IsExactOf inputs S
+  pub exact : (S : NamedSystem) → IsExactOf inputs S → LiesInStack (length neq.names) (stack_in neq).table (stack_in neq).scales (over neq.names S)
   pub certified : AreCertifiedOf neq numbers
 
--- The words are `solve` with two names, and the second one's file holds, finished, a certified report of the first one's.
+-- The outputs' files hold their texts, finished.
+abbrev pub AreWritten : List NamedText → (List ℕ → Option File) → Type 0
+AreWritten [] files = Unit {0}
+AreWritten (output ∷ later) files = (files output.name ≡ Some (record { bytes = output.text; finished = true })) × AreWritten later files
+
+-- The words are a command, its files were read as its control says, its outputs are written, and the report is certified.
 pub record IsCertifiedRun (words : List (List ℕ)) (old new : List ℕ → Option File) : Type 0 where
-  pub names : FileNames
-  pub solve : AreSolve words names
-  pub input : File
-  pub report : List ℕ
-  pub read : old names.from ≡ Some input
-  pub written : new names.to ≡ Some (record { bytes = report; finished = true })
-  pub certified : IsCertifiedReport input.bytes report
+  pub command : PlainCommand
+  pub are : AreCommand words command
+  pub control : PlainControl
+  pub has : HasControl command old (Ok control)
+  pub inputs : List PlainInput
+  pub reads : ReadsInputs control.files old (Ok inputs)
+  pub texts : Texts
+  pub certified : IsCertifiedReport control.scales inputs texts.report
+  pub written : AreWritten (outputs_with command texts) new

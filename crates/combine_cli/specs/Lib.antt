@@ -1,7 +1,8 @@
+pub mod Alike
+pub mod Causes
+pub mod Combination
 pub mod Headline
 pub mod Plan
-pub mod Refusals
-pub mod Report
 pub mod Runs
 pub mod Verdict
 pub mod Worked

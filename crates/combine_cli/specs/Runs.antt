@@ -1,23 +1,28 @@
 -- What a run leaves.
 use Rattle.std.specs.Prelude.{◌≡◌, ◌≢◌, ◌⊎◌, ◌++◌, ◌≤◌, ℕ, List, [], Option, Result, Ok, Err, IsErrOf}
+use Rattle.std.specs.List.{Any}
 use Rattle.desk_io.specs.Content.{File, Content, KeepsAll, IsFront}
 use Rattle.desk_io.specs.Desk.{Rose, Says}
 use Rattle.desk_io.specs.Outputs.{NamedText, StandsWhole, StandsCut}
 use Rattle.desk_io.specs.declared.desk.DeskError.{DeskError}
 use Rattle.desk_io.specs.declared.desk.DeskError.TheVariants as desk
-use Rattle.combine_cli.specs.Refusals.{status_of, line_of}
-use Rattle.combine_cli.specs.Verdict.{Outcome, IsVerdict}
-use Rattle.combine_cli.specs.declared.refusal.Refusal.TheVariants.{Memory, Desk}
+use Rattle.refusal_lines.specs.Refusals.{status_of, line_of}
+use Rattle.combine_cli.specs.Verdict.{Outcome, IsVerdict, HasControl}
+use Rattle.refusal_lines.specs.declared.refusal.Refusal.TheVariants.{Memory, Desk}
+use Rattle.control_doc.specs.Plain.{PlainPlan, PlainControl}
+use Rattle.run_inputs.specs.Words.{PlainCommand, Solve, Combine, AreCommand}
 
--- the statuses that a run answers
-abbrev pub IsStatus : ℕ → Type 0
-IsStatus status = (status ≡ 0) ⊎ (status ≡ 2) ⊎ (status ≡ 3) ⊎ (status ≡ 4) ⊎ (status ≡ 5) ⊎ (status ≡ 6)
+-- the files that a command names and reads: of `combine` the control file alone
+abbrev pub named_input : PlainCommand → List ℕ
+named_input (Solve names) = names.from
+named_input (Combine names) = names.control
 
--- The count of faults never falls. It rose before status 5, and before each status but 4 and 5 it is as it was.
-pub record HasStatusCause (before now status : ℕ) : Type 0 where
-  pub later : before ≤ now
-  pub fault : status ≡ 5 → Rose before now
-  pub unchanged : status ≢ 4 → status ≢ 5 → now ≡ before
+-- A command of these words reads the file of this name: it is the one that the words name, or one that its control lists.
+pub record ReadsName (words : List (List ℕ)) (files : List ℕ → Option File) (name : List ℕ) : Type 0 where
+  pub command : PlainCommand
+  pub are : AreCommand words command
+  pub reads : (name ≡ named_input command)
+      ⊎ ((control : PlainControl) × HasControl command files (Ok control) × Any (λ (plan : PlainPlan). plan.name ≡ name) control.files)
 
 -- The words and the files have this verdict, and P holds of it.
 pub record HasVerdict (words : List (List ℕ)) (files : List ℕ → Option File) (P : Outcome → Type 0) : Type 0 where

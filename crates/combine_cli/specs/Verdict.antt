@@ -1,91 +1,39 @@
 -- What a run is to do: a relation of its words, the files by name and its outcome, and of nothing else. It is said as steps in
--- their order: the words, the file, its text, its normal equations, the rules. The first that refuses gives the outcome.
-use Rattle.std.specs.Prelude.{◌≡◌, ◌≢◌, ◌⊎◌, ◌≤◌, ◌<◌, ◌∷◌, ◌^◌, ℕ, List, [], length, Some, None, Option, Result, Ok, Err, codes}
-use Rattle.stated_order.specs.Steps.{Then, Renamed}
+-- their order: the words, the control file, the files in the order of their names, and their combination. The first that refuses
+-- gives the outcome.
+use Rattle.std.specs.Prelude.{◌≡◌, ◌∷◌, ℕ, List, [], Option, Result, Ok, Err}
+use Rattle.stated_order.specs.Steps.{Then}
 use Rattle.desk_io.specs.Content.{File}
 use Rattle.desk_io.specs.Outputs.{NamedText}
-use Rattle.param_ids.specs.Tables.{standard_scales}
-use Rattle.snx_blocks.specs.Documents.{PlainDoc, IsDocument}
-use Rattle.neq_stack.specs.Neqs.{PlainNeq}
-use Rattle.recover_neq.specs.Recovery.{IsRecovered}
-use Rattle.stack_rules.specs.Rules.{Numbers, IsAnswer}
-use Rattle.stack_rules.specs.Stacks.{Stack, stack_of}
-use Rattle.stack_rules.specs.declared.StackError.{StackError}
-use Rattle.combine_cli.specs.Refusals.{refusal_of_recovery, refusal_of_rules}
-use Rattle.combine_cli.specs.Report.{numbers_report}
-use Rattle.combine_cli.specs.declared.refusal.Refusal.{Refusal}
-use Rattle.combine_cli.specs.declared.refusal.Refusal.TheVariants.{Words, NoFile, TooLong, Line}
+use Rattle.control_doc.specs.Plain.{PlainControl}
+use Rattle.control_doc.specs.Single.{alone_control}
+use Rattle.refusal_lines.specs.declared.refusal.Refusal.{Refusal}
+use Rattle.run_inputs.specs.Words.{PlainCommand, Solve, Combine, CombinedFiles, ReadsWords}
+use Rattle.run_inputs.specs.Controls.{ReadsControl}
+use Rattle.run_inputs.specs.Inputs.{ReadsInputs}
+use Rattle.combine_cli.specs.Combination.{Texts, IsCombined}
 
 -- The outcome of a run: the outputs that it writes, in their order, or why it refuses.
 abbrev pub Outcome : Type 0
 Outcome = Result (List NamedText) Refusal
 
--- ---- the words
+-- what a command does to the files of a control: it reads them and combines them
+abbrev pub Combines : PlainControl → (List ℕ → Option File) → Result Texts Refusal → Type 0
+Combines control files = Then (ReadsInputs control.files files) (IsCombined control.scales)
 
--- the files that a command names: the one that is read, and the one that is written
-pub record FileNames : Type 0 where
-  pub from : List ℕ
-  pub to : List ℕ
+-- the control of a command: `solve` is the combination of a single file
+abbrev pub HasControl : PlainCommand → (List ℕ → Option File) → Result PlainControl Refusal → Type 0
+HasControl (Solve names) files result = result ≡ Ok (alone_control names.from)
+HasControl (Combine names) files result = ReadsControl names files result
 
--- The words are `solve` and two different names.
-pub record AreSolve (words : List (List ℕ)) (names : FileNames) : Type 0 where
-  pub words_are : words ≡ codes "solve" ∷ names.from ∷ names.to ∷ []
-  pub differ : names.from ≢ names.to
-
--- a command, or words that are none
-abbrev pub ReadsWords : List (List ℕ) → Result FileNames Refusal → Type 0
-ReadsWords words (Ok names) = AreSolve words names
-ReadsWords words (Err refusal) = ((names : FileNames) → ¬ (AreSolve words names)) × (refusal ≡ Words)
-
--- The words name this file as one that is written.
-abbrev pub NamesOutput : List (List ℕ) → List ℕ → Type 0
-NamesOutput words name = (names : FileNames) × AreSolve words names × (name ≡ names.to)
-
--- ---- the file
-
--- a file of more bytes than this is too long: 64 MiB
-abbrev pub file_limit : ℕ
-file_limit = 2 ^ 26
-
--- The bytes of the file of that name, if there is one and it is not too long.
-abbrev pub ReadsFile : List ℕ → Option File → Result (List ℕ) Refusal → Type 0
-ReadsFile name None result = result ≡ Err (NoFile name)
-ReadsFile name (Some file) result =
-    ((length file.bytes ≤ file_limit) × (result ≡ Ok file.bytes)) ⊎ ((file_limit < length file.bytes) × (result ≡ Err (TooLong name)))
-
--- ---- its text
-
--- what the text says, or its first bad line
-abbrev pub ReadsText : List ℕ → List ℕ → Result PlainDoc Refusal → Type 0
-ReadsText name text = Renamed (λ fault. Line name fault) (IsDocument text)
-
--- ---- its normal equations
-
--- the normal equations of the document with the standard scales, or why it has none
-abbrev pub Recovers : List ℕ → PlainDoc → Result PlainNeq Refusal → Type 0
-Recovers name doc = Renamed (refusal_of_recovery name) (IsRecovered doc standard_scales)
-
--- ---- the rules
-
--- the stack of normal equations
-abbrev pub stack_in : PlainNeq → Stack
-stack_in neq = stack_of neq.table neq.right neq.apriori neq.scales
-
--- the report of the rules' numbers, or the refusal for their cause
-abbrev pub outcome_of : FileNames → PlainNeq → Result Numbers StackError → Outcome
-outcome_of names neq (Ok numbers) = Ok (record { name = names.to; text = numbers_report neq.names neq.units numbers } ∷ [])
-outcome_of names neq (Err cause) = Err (refusal_of_rules neq.names cause)
-
--- The outcome is what the rules answer to the stack.
-abbrev pub Solves : FileNames → PlainNeq → Outcome → Type 0
-Solves names neq outcome = (answer : Result Numbers StackError) × IsAnswer (stack_in neq) answer × (outcome ≡ outcome_of names neq answer)
-
--- ---- all steps, in their order
+-- the outputs of a command: `solve` writes the report, `combine` the combined file and then the report
+abbrev pub outputs_with : PlainCommand → Texts → List NamedText
+outputs_with (Solve names) texts = record { name = names.to; text = texts.report } ∷ []
+outputs_with (Combine names) texts = record { name = names.out; text = texts.out } ∷ record { name = names.report; text = texts.report } ∷ []
 
 abbrev pub IsVerdict : List (List ℕ) → (List ℕ → Option File) → Outcome → Type 0
 IsVerdict words files =
-    Then (ReadsWords words) (λ names.
-    Then (ReadsFile names.from (files names.from)) (λ text.
-    Then (ReadsText names.from text) (λ doc.
-    Then (Recovers names.from doc) (λ neq.
-    Solves names neq))))
+    Then (ReadsWords words) (λ command.
+    Then (HasControl command files) (λ control.
+    Then (Combines control files) (λ texts r.
+    r ≡ Ok (outputs_with command texts))))

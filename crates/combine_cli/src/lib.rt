@@ -1,19 +1,17 @@
 //! The top call: from the words of a command and the files of a desk to the files that it leaves and its status.
 #![tactic(auto)]
 
+mod combining;
 mod decide;
 mod laws;
-mod name;
-mod refusal;
-mod report;
 #[cfg(test)]
 mod tests;
 mod top;
 
+pub use combining::{Combined, combine_core};
 pub use laws::{
     bounds_hold_their_solutions, exact_systems_are_as_written, refusals_are_told,
     stopped_outputs_are_fronts,
 };
-pub use name::Name;
-pub use refusal::{Refusal, Scope, line, status};
+pub use refusal_lines::{Name, Refusal, Scope, line, status};
 pub use top::run;

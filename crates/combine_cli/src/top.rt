@@ -3,14 +3,16 @@ ghost use Rattle.std.specs.Prelude.{◌≡◌, ◌≢◌, ◌≤◌, ◌⊎◌, 
 ghost use Rattle.desk_io.specs.Content.{IsFront};
 ghost use Rattle.desk_io.specs.Desk.{HasCause, Rose, Says};
 ghost use Rattle.desk_io.specs.Outputs.{NamedText};
-ghost use Rattle.combine_cli.specs.Refusals.{status_of, line_of};
-ghost use Rattle.combine_cli.specs.Verdict.{Outcome, FileNames, AreSolve, IsVerdict, NamesOutput};
-ghost use Rattle.combine_cli.specs.Runs.{IsStatus, HasStatusCause, HasVerdict, Leaves, SaysPart, StoppedAt, StoppedThen, SaysMemory, SaysFault, Excuses};
+ghost use Rattle.refusal_lines.specs.Refusals.{IsStatus, status_of, line_of};
+ghost use Rattle.run_inputs.specs.Words.{NamesOutput};
+ghost use Rattle.run_inputs.specs.Views.{HasStatusCause};
+ghost use Rattle.combine_cli.specs.Verdict.{Outcome, IsVerdict};
+ghost use Rattle.combine_cli.specs.Runs.{HasVerdict, Leaves, SaysPart, StoppedAt, StoppedThen, SaysMemory, SaysFault, Excuses, ReadsName};
 ghost use Rattle.combine_cli.specs.Headline.{IsCertifiedRun};
 
 use crate::decide::decide;
-use crate::refusal::{DESK_LINE, MEMORY_LINE, Refusal, line, status};
 use desk_io::{Desk, DeskError, write_outputs};
+use refusal_lines::{DESK_LINE, MEMORY_LINE, Refusal, line, status};
 use std::alloc::Global;
 use std::thread::Threads;
 
@@ -80,23 +82,24 @@ fn say_memory<D: Desk>(desk: &mut D) -> u8
 
 /// Runs the command that the words name, and answers its status.
 ///
-/// The words are those of the command line after the program's name: `solve IN REPORT`. The status is 0 where REPORT was
-/// written; 2 where the words are no command; 3 where IN isn't there, is too long, has a bad line or lacks normal equations by
-/// name; 6 where a number of it passes its range, or the rules don't certify it; 4 for want of memory; 5 where the desk's count
-/// of faults rose. Before 2, 3 and 6 the refusal's line was said whole and no file was created; IN is read to its end before
-/// REPORT is created.
+/// The words are those of the command line after the program's name: `solve IN REPORT` or `combine CONTROL OUT REPORT`. The status
+/// is 0 where the outputs were written; 2 where the words are no command; 3 where the control file or a SINEX file isn't there, is
+/// too long or has a fault, asks for what isn't built, or lacks normal equations by name; 6 where a number passes its range, or the
+/// rules don't certify the stack; 4 for want of memory; 5 where the desk's count of faults rose. Before 2, 3 and 6 the refusal's
+/// line was said whole and no file was created; all that is read is read to its end before the first output is created, and OUT is
+/// written before REPORT.
 pub fn run<R: Threads + Sync, D: Desk>(rt: &R, alloc: Global, words: &[String], desk: &mut D) -> u8
     ensures status { IsStatus result }
 
     // The count of faults rose before 5, and is as before with 0, 2, 3 and 6.
     ensures cause { HasStatusCause (D.faults desk.old) (D.faults desk.new) result }
 
-    // Whatever the status, each file but the outputs that the words name is as before, the one that is read among them, and
+    // Whatever the status, each file but the outputs that the words name is as before, those that are read among them, and
     // what was said before still stands before all that the run said.
     ensures untouched { IsTrue D.tells → (name : List ℕ) → ¬ (NamesOutput (map string_bytes words.now) name)
         → (D.content desk.new).files name ≡ (D.content desk.old).files name }
-    ensures input { IsTrue D.tells → (names : FileNames) → AreSolve (map string_bytes words.now) names
-        → (D.content desk.new).files names.from ≡ (D.content desk.old).files names.from }
+    ensures input { IsTrue D.tells → (name : List ℕ) → ReadsName (map string_bytes words.now) (D.content desk.old).files name
+        → (D.content desk.new).files name ≡ (D.content desk.old).files name }
     ensures said { IsTrue D.tells → IsFront (D.content desk.old).said (D.content desk.new).said }
 
     // Over a desk that tells its files the words and the files have one verdict, and the run leaves what it says.
@@ -114,9 +117,9 @@ pub fn run<R: Threads + Sync, D: Desk>(rt: &R, alloc: Global, words: &[String], 
         → IsVerdict (map string_bytes words.now) (D.content desk.old).files outcome
         → StoppedThen outcome (Excuses result) (D.content desk.old) (D.content desk.new) }
 
-    // The input's normal equations have an exact system, and each one lies in the intervals of their numbers. Each system in
-    // them has a solution, all its solutions are equal and lie between the printed bounds, and the printed estimates leave at
-    // most the printed residual in every row.
+    // The inputs' normal equations have an exact system, the sum by name of one of each file, and over the names of the stack each
+    // one lies in its intervals. Each system in them has a solution, all its solutions are equal and lie between the printed
+    // bounds, and the printed estimates leave at most the printed residual in every row.
     ensures certified { IsTrue D.tells → result ≡ 0 → IsCertifiedRun (map string_bytes words.now) (D.content desk.old).files (D.content desk.new).files }
 {
     match carry_out(rt, alloc, words, desk) {

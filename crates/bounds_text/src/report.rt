@@ -1,6 +1,6 @@
 // The report of bounds, as text.
 ghost use Rattle.std.specs.Prelude.{◌≡◌, ◌++◌, ◌∷◌, ◌+◌, ◌<◌, ◌/◌, ◌%◌, ◌^◌, length, slice_get, Some, flat_map, IfOk, string_bytes, codes};
-ghost use Rattle.combine_cli.specs.Report.{units_text, bound_text, bounds_line, bounds_lines, certificate_line, numbers_report};
+ghost use Rattle.bounds_text.specs.Report.{units_text, bound_text, bounds_line, bounds_lines, certificate_line, numbers_report};
 ghost use Rattle.stack_rules.specs.Rules.{numbers_in};
 
 use bounds_report::Printed;

@@ -1,7 +1,6 @@
--- Refusals: the status and the line of each, and how the causes of the steps are told.
-use Rattle.std.specs.Prelude.{◌++◌, ◌∷◌, ℕ, List, [], codes, slice_get, unwrap_or}
+-- Refusals: the status and the line of each.
+use Rattle.std.specs.Prelude.{◌≡◌, ◌⊎◌, ◌++◌, ℕ, List, codes}
 use Rattle.std.specs.Fmt.{decimal}
-use Rattle.snx_epoch.specs.declared.Epoch.TheVariants.{Never}
 use Rattle.snx_lines.specs.declared.blocks.FrameCause.{FrameCause}
 use Rattle.snx_lines.specs.declared.blocks.FrameCause.TheVariants as frames
 use Rattle.param_ids.specs.Plain.{PlainId}
@@ -9,26 +8,29 @@ use Rattle.param_ids.specs.Ids.{id_text}
 use Rattle.snx_rows.specs.declared.causes.Cause.{Cause}
 use Rattle.snx_rows.specs.declared.causes.Cause.TheVariants as lines
 use Rattle.snx_blocks.specs.Sections.{section_name}
-use Rattle.snx_blocks.specs.declared.sections.Section.TheVariants.{Apriori}
-use Rattle.recover_neq.specs.declared.RecoverFault.{RecoverFault}
-use Rattle.recover_neq.specs.declared.RecoverFault.TheVariants as recovery
-use Rattle.stack_rules.specs.declared.StackError.{StackError}
-use Rattle.stack_rules.specs.declared.StackError.TheVariants as rules
-use Rattle.combine_cli.specs.declared.refusal.Scope.{Scope}
-use Rattle.combine_cli.specs.declared.refusal.Scope.TheVariants.{File, Stack}
-use Rattle.combine_cli.specs.declared.refusal.Refusal.{Refusal}
-use Rattle.combine_cli.specs.declared.refusal.Refusal.TheVariants.{Words, NoFile, TooLong, Line, Block, Unmatched, Empty, Unbuilt, Memory, Desk, Range, Pivot, Condition, Residual, Defect}
+use Rattle.control_doc.specs.declared.faults.ControlCause.{ControlCause}
+use Rattle.control_doc.specs.declared.faults.ControlCause.TheVariants as controls
+use Rattle.refusal_lines.specs.declared.refusal.Scope.{Scope}
+use Rattle.refusal_lines.specs.declared.refusal.Scope.TheVariants.{File, Group, Stack}
+use Rattle.refusal_lines.specs.declared.refusal.Refusal.{Refusal}
+use Rattle.refusal_lines.specs.declared.refusal.Refusal.TheVariants.{Words, Control, NoFile, TooLong, Line, Block, Unmatched, Empty, TooMany, Unbuilt, Memory, Desk, Range, Pivot, Condition, Residual, Defect}
+
+-- the statuses that a run answers
+abbrev pub IsStatus : ℕ → Type 0
+IsStatus status = (status ≡ 0) ⊎ (status ≡ 2) ⊎ (status ≡ 3) ⊎ (status ≡ 4) ⊎ (status ≡ 5) ⊎ (status ≡ 6)
 
 -- 2: the words are no command. 3: what was to be read can't be. 4: memory is wanting. 5: the desk failed. 6: a number passes
 -- its range, or the rules don't certify it.
 abbrev pub status_of : Refusal → ℕ
 status_of Words = 2
+status_of (Control cause path) = 3
 status_of (NoFile name) = 3
 status_of (TooLong name) = 3
 status_of (Line name fault) = 3
 status_of (Block place block) = 3
 status_of (Unmatched place id) = 3
 status_of (Empty place) = 3
+status_of (TooMany place count) = 3
 status_of (Unbuilt name) = 3
 status_of Memory = 4
 status_of Desk = 5
@@ -41,6 +43,7 @@ status_of (Defect place id parts) = 6
 -- where a refusal arose
 abbrev pub place_text : Scope → List ℕ
 place_text (File name) = codes "file:" ++ name
+place_text (Group name) = codes "group:" ++ name
 place_text Stack = codes "stack"
 
 -- why a line breaks the frame of its text
@@ -67,6 +70,20 @@ cause_text lines.Repeated = codes "Repeated"
 cause_text lines.MissingBlock = codes "MissingBlock"
 cause_text lines.TooMany = codes "TooMany"
 
+-- why a control file says no control; a text that is no TOML has no path
+abbrev pub control_cause_text : ControlCause → List ℕ
+control_cause_text controls.Syntax = codes "syntax"
+control_cause_text controls.Key = codes "key"
+control_cause_text controls.Kind = codes "kind"
+control_cause_text controls.Value = codes "value"
+control_cause_text controls.Repeated = codes "repeated"
+control_cause_text controls.TooMany = codes "toomany"
+control_cause_text controls.SameName = codes "samename"
+
+abbrev pub control_text : ControlCause → List ℕ → List ℕ
+control_text controls.Syntax path = codes "control syntax"
+control_text cause path = codes "control " ++ (control_cause_text cause ++ (codes " " ++ path))
+
 -- what is refused of a parameter, and where
 abbrev pub at_unknown : List ℕ → Scope → PlainId → List ℕ
 at_unknown what place id = what ++ (place_text place ++ (codes " " ++ id_text id))
@@ -74,12 +91,14 @@ at_unknown what place id = what ++ (place_text place ++ (codes " " ++ id_text id
 -- what a refusal says
 abbrev pub text_of : Refusal → List ℕ
 text_of Words = codes "words"
+text_of (Control cause path) = control_text cause path
 text_of (NoFile name) = codes "no file " ++ name
 text_of (TooLong name) = codes "too long " ++ name
 text_of (Line name fault) = name ++ (codes ":" ++ (decimal fault.line ++ (codes " " ++ cause_text fault.cause)))
 text_of (Block place block) = codes "block " ++ (place_text place ++ (codes " " ++ section_name block))
 text_of (Unmatched place id) = at_unknown (codes "unmatched ") place id
 text_of (Empty place) = codes "empty " ++ place_text place
+text_of (TooMany place count) = codes "too many " ++ (place_text place ++ (codes " " ++ decimal count))
 text_of (Unbuilt name) = codes "unbuilt " ++ name
 text_of Memory = codes "memory"
 text_of Desk = codes "desk"
@@ -92,30 +111,3 @@ text_of (Defect place id parts) = at_unknown (codes "defect ") place id ++ (code
 -- the line that is said
 abbrev pub line_of : Refusal → List ℕ
 line_of refusal = codes "snxcomb: " ++ (text_of refusal ++ codes "\n")
-
--- ---- the causes of the steps
-
--- The refusal of a file whose normal equations are not recovered. One with a priori values, but without the right side or the
--- matrix of normal equations, is not built yet.
-abbrev pub refusal_of_recovery : List ℕ → RecoverFault → Refusal
-refusal_of_recovery name (recovery.MissingBlock Apriori) = Block (File name) Apriori
-refusal_of_recovery name (recovery.MissingBlock block) = Unbuilt name
-refusal_of_recovery name (recovery.Unmatched id) = Unmatched (File name) id
-refusal_of_recovery name recovery.Empty = Empty (File name)
-refusal_of_recovery name (recovery.Range row col) = Range (File name) row col
-
--- the name of row k, counted from 0; past the last row a name of zeros
-abbrev pub no_name : PlainId
-no_name = record { kind = 0 ∷ 0 ∷ 0 ∷ 0 ∷ 0 ∷ 0 ∷ []; code = 0 ∷ 0 ∷ 0 ∷ 0 ∷ []; point = 0 ∷ 0 ∷ []; soln = 0 ∷ 0 ∷ 0 ∷ 0 ∷ []; epoch = Never }
-
-abbrev pub name_at : List PlainId → ℕ → PlainId
-name_at names k = unwrap_or (slice_get names k) no_name
-
--- the refusal of a stack of these names for a cause of the rules
-abbrev pub refusal_of_rules : List PlainId → StackError → Refusal
-refusal_of_rules names (rules.Range row col) = Range Stack (name_at names row) (name_at names col)
-refusal_of_rules names (rules.Pivot row) = Pivot Stack (name_at names row)
-refusal_of_rules names (rules.Condition col) = Condition Stack (name_at names col)
-refusal_of_rules names (rules.Residual row size) = Residual Stack (name_at names row) size
-refusal_of_rules names (rules.Defect row parts) = Defect Stack (name_at names row) parts
-refusal_of_rules names rules.Memory = Memory

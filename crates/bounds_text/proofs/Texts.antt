@@ -3,7 +3,7 @@ use Rattle.std.proofs.Common.{◌≡◌, ◌++◌, ◌∷◌, ◌+◌, ◌-◌, 
 use Rattle.std.specs.Fmt.{decimal, padded_integral, format_spec, char_count}
 use Rattle.param_ids.specs.Plain.{PlainId}
 use Rattle.bounds_report.specs.declared.numbers.Printed.{Printed}
-use Rattle.combine_cli.specs.Report.{sixteen_digits, certificate_line, bounds_line, bounds_lines, report_text}
+use Rattle.bounds_text.specs.Report.{sixteen_digits, certificate_line, bounds_line, bounds_lines, report_text}
 
 -- what `{:016}` writes
 pub sixteen : (n : ℕ) → padded_integral (format_spec 32 0 4 16 (2 ^ 64 - 1)) false [] (decimal n) ≡ sixteen_digits n

@@ -3,20 +3,21 @@ ghost use Rattle.std.specs.Prelude.{◌≡◌, ◌≢◌, ◌++◌, IfOk, codes}
 ghost use Rattle.std.specs.Fmt.{decimal};
 ghost use Rattle.param_ids.specs.Ids.{id_text};
 ghost use Rattle.snx_blocks.specs.Sections.{section_name};
-ghost use Rattle.combine_cli.specs.Refusals.{status_of, place_text, frame_text, cause_text, at_unknown, text_of, line_of};
-ghost use Rattle.combine_cli.specs.Runs.{IsStatus};
-ghost use Rattle.combine_cli.specs.declared.refusal.Refusal.TheVariants.{Memory};
+ghost use Rattle.refusal_lines.specs.Refusals.{IsStatus, status_of, place_text, frame_text, cause_text, control_cause_text, control_text, at_unknown, text_of, line_of};
+ghost use Rattle.refusal_lines.specs.declared.refusal.Refusal.TheVariants.{Memory};
 
 use crate::name::Name;
+use control_doc::ControlCause;
 use param_ids::{ParamId, push_id};
 use snx_blocks::{Cause, LineFault, Section};
 use snx_lines::FrameCause;
 use std::alloc::{AllocError, Global};
 
-/// Where a refusal arose: at the numbers of one file, or at those of the whole stack.
+/// Where a refusal arose: at the numbers of one file, at those of a group, or at those of the whole stack.
 #[derive(Drop)]
 pub enum Scope {
     File(Name),
+    Group(Name),
     Stack,
 }
 
@@ -25,11 +26,17 @@ pub enum Scope {
 pub enum Refusal {
     /// The words are no command.
     Words,
+    /// The control file says no control: its first fault, with the path of the key. For SameName the path is the file's name.
+    Control {
+        cause: ControlCause,
+        path: Name,
+    },
     /// There is no file of that name.
     NoFile {
         name: Name,
     },
-    /// The file of that name has more than 64 MiB.
+    /// The file of that name has more bytes than it may have: 64 MiB, and 1 MiB as a control file; or those of all files
+    /// together pass 1 GiB at it.
     TooLong {
         name: Name,
     },
@@ -52,7 +59,12 @@ pub enum Refusal {
     Empty {
         place: Scope,
     },
-    /// The file of that name lacks normal equations, and files without them aren't solved yet.
+    /// More than 1,000 parameters would stand there: so many.
+    TooMany {
+        place: Scope,
+        count: u32,
+    },
+    /// The file of that name asks for what isn't built yet.
     Unbuilt {
         name: Name,
     },
@@ -99,10 +111,10 @@ impl From<AllocError> for Refusal {
 }
 
 /// The line of want of memory, which is said without taking any.
-pub(crate) const MEMORY_LINE: &[u8] = b"snxcomb: memory\n";
+pub const MEMORY_LINE: &[u8] = b"snxcomb: memory\n";
 
 /// The line of a fault.
-pub(crate) const DESK_LINE: &[u8] = b"snxcomb: desk\n";
+pub const DESK_LINE: &[u8] = b"snxcomb: desk\n";
 
 /// The status of a refusal.
 pub fn status(refusal: &Refusal) -> u8
@@ -112,12 +124,14 @@ pub fn status(refusal: &Refusal) -> u8
 {
     match refusal {
         Refusal::Words => 2,
-        Refusal::NoFile { .. }
+        Refusal::Control { .. }
+        | Refusal::NoFile { .. }
         | Refusal::TooLong { .. }
         | Refusal::Line { .. }
         | Refusal::Block { .. }
         | Refusal::Unmatched { .. }
         | Refusal::Empty { .. }
+        | Refusal::TooMany { .. }
         | Refusal::Unbuilt { .. } => 3,
         Refusal::Memory => 4,
         Refusal::Desk => 5,
@@ -194,8 +208,47 @@ fn place_text(alloc: Global, place: &Scope) -> Result<Vec<u8>, AllocError>
 {
     match place {
         Scope::File(name) => joined(alloc, b"file:", name.as_bytes()),
+        Scope::Group(name) => joined(alloc, b"group:", name.as_bytes()),
         Scope::Stack => Vec::from_slice(alloc, b"stack"),
     }
+}
+
+// Why a control file says no control.
+fn control_cause_text(cause: ControlCause) -> &'static [u8]
+    ensures { result.now ≡ control_cause_text cause }
+{
+    match cause {
+        ControlCause::Syntax => b"syntax",
+        ControlCause::Key => b"key",
+        ControlCause::Kind => b"kind",
+        ControlCause::Value => b"value",
+        ControlCause::Repeated => b"repeated",
+        ControlCause::TooMany => b"toomany",
+        ControlCause::SameName => b"samename",
+    }
+}
+
+// A fault of a control file. A text that is no TOML has no path.
+fn control_text(alloc: Global, cause: ControlCause, path: &Name) -> Result<Vec<u8>, AllocError>
+    ensures { IfOk result (λ text. text.items ≡ control_text cause path.now) }
+{
+    let mut text = joined(alloc, b"control ", control_cause_text(cause))?;
+    if cause != ControlCause::Syntax {
+        text.push(b' ')?;
+        text.extend_from_slice(path.as_bytes())?;
+    }
+    Ok(text)
+}
+
+// So many parameters that are too many.
+fn too_many_text(alloc: Global, place: &Scope, count: u32) -> Result<Vec<u8>, AllocError>
+    ensures { IfOk result (λ text. text.items ≡ codes "too many " ++ (place_text place.now ++ (codes " " ++ decimal count))) }
+{
+    let place = place_text(alloc, place)?;
+    let number = format!(in alloc; " {count}")?;
+    let mut text = joined(alloc, b"too many ", &place)?;
+    text.extend_from_slice(number.as_bytes())?;
+    Ok(text)
 }
 
 // A bad line of a file.
@@ -280,12 +333,14 @@ fn text(alloc: Global, refusal: &Refusal) -> Result<Vec<u8>, AllocError>
 {
     match refusal {
         Refusal::Words => Vec::from_slice(alloc, b"words"),
+        Refusal::Control { cause, path } => control_text(alloc, *cause, path),
         Refusal::NoFile { name } => joined(alloc, b"no file ", name.as_bytes()),
         Refusal::TooLong { name } => joined(alloc, b"too long ", name.as_bytes()),
         Refusal::Line { name, fault } => line_text(alloc, name, *fault),
         Refusal::Block { place, block } => block_text(alloc, place, *block),
         Refusal::Unmatched { place, id } => at_unknown(alloc, b"unmatched ", place, id),
         Refusal::Empty { place } => empty_text(alloc, place),
+        Refusal::TooMany { place, count } => too_many_text(alloc, place, *count),
         Refusal::Unbuilt { name } => joined(alloc, b"unbuilt ", name.as_bytes()),
         Refusal::Memory => Vec::from_slice(alloc, b"memory"),
         Refusal::Desk => Vec::from_slice(alloc, b"desk"),

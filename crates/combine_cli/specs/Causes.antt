@@ -1,0 +1,33 @@
+-- The causes of the steps as refusals: why a file has no normal equations, and why the rules refuse a stack.
+use Rattle.std.specs.Prelude.{ℕ, List}
+use Rattle.param_ids.specs.Plain.{PlainId}
+use Rattle.neq_stack.specs.Systems.{name_at}
+use Rattle.snx_blocks.specs.declared.sections.Section.TheVariants.{Apriori}
+use Rattle.control_doc.specs.declared.plans.Form.{Form}
+use Rattle.control_doc.specs.declared.plans.Form.TheVariants as forms
+use Rattle.recover_neq.specs.declared.RecoverFault.{RecoverFault}
+use Rattle.recover_neq.specs.declared.RecoverFault.TheVariants as recovery
+use Rattle.stack_rules.specs.declared.StackError.{StackError}
+use Rattle.stack_rules.specs.declared.StackError.TheVariants as rules
+use Rattle.refusal_lines.specs.declared.refusal.Scope.TheVariants.{File, Stack}
+use Rattle.refusal_lines.specs.declared.refusal.Refusal.{Refusal}
+use Rattle.refusal_lines.specs.declared.refusal.Refusal.TheVariants.{Block, Unmatched, Empty, Unbuilt, Memory, Range, Pivot, Condition, Residual, Defect}
+
+-- The refusal of a file whose normal equations are not recovered. Where a file need not be taken from its normal equations, it has a
+-- priori values and lacks the right side or the matrix of normal equations, its solution would be taken, which is not built yet.
+abbrev pub refusal_of_recovery : Form → List ℕ → RecoverFault → Refusal
+refusal_of_recovery form name (recovery.MissingBlock Apriori) = Block (File name) Apriori
+refusal_of_recovery forms.Neq name (recovery.MissingBlock block) = Block (File name) block
+refusal_of_recovery form name (recovery.MissingBlock block) = Unbuilt name
+refusal_of_recovery form name (recovery.Unmatched id) = Unmatched (File name) id
+refusal_of_recovery form name recovery.Empty = Empty (File name)
+refusal_of_recovery form name (recovery.Range row col) = Range (File name) row col
+
+-- the refusal of a stack of these names for a cause of the rules
+abbrev pub refusal_of_rules : List PlainId → StackError → Refusal
+refusal_of_rules names (rules.Range row col) = Range Stack (name_at names row) (name_at names col)
+refusal_of_rules names (rules.Pivot row) = Pivot Stack (name_at names row)
+refusal_of_rules names (rules.Condition col) = Condition Stack (name_at names col)
+refusal_of_rules names (rules.Residual row size) = Residual Stack (name_at names row) size
+refusal_of_rules names (rules.Defect row parts) = Defect Stack (name_at names row) parts
+refusal_of_rules names rules.Memory = Memory

@@ -1,0 +1,48 @@
+//! From files that were read to the texts of their combination.
+
+ghost use Rattle.std.specs.Prelude.{◌≢◌, ◌≤◌, All, IfOk, IfErr, Ok, Err, length, map};
+ghost use Rattle.snx_blocks.specs.Documents.{IsValid};
+ghost use Rattle.snx_blocks.specs.Views.{doc_view};
+ghost use Rattle.refusal_lines.specs.Refusals.{status_of};
+ghost use Rattle.run_inputs.specs.Views.{input_view, IfTold};
+ghost use Rattle.combine_cli.specs.Combination.{IsCombined};
+ghost use Rattle.combine_cli.specs.Headline.{IsCertifiedReport};
+ghost use Rattle.combine_cli.specs.Plan.{texts_view};
+
+use control_doc::Control;
+use refusal_lines::Refusal;
+use run_inputs::Input;
+use std::alloc::Global;
+use std::thread::Threads;
+
+/// The texts of a combination.
+#[derive(Drop)]
+pub struct Combined {
+    /// The combined file; empty until it is built.
+    pub out: Vec<u8>,
+    /// The report of bounds.
+    pub report: Vec<u8>,
+}
+
+/// The combination of files that were read, in the order of their names.
+///
+/// # Errors
+///
+/// The first refusal, in this order: Unbuilt for the first file of which a name has another a priori value or unit in a file before
+/// it; for each file in turn Block, Unbuilt, Unmatched, Empty, Range; for each group TooMany, and then TooMany for the whole stack;
+/// then the rules' Range, Pivot, Condition, Residual and Defect; or want of memory.
+pub fn combine_core<R: Threads + Sync>(
+    rt: &R,
+    alloc: Global,
+    control: &Control,
+    inputs: Vec<Input<'_>>,
+) -> Result<Combined, Refusal>
+    requires valid { All (λ input. IsValid (doc_view input.doc)) inputs.items }
+    requires few { length inputs.items ≤ 64 }
+    ensures combined { IfOk result (λ combined. IsCombined control.now.scales (map input_view inputs.items) (Ok (texts_view combined))) }
+    ensures certified { IfOk result (λ combined. IsCertifiedReport control.now.scales (map input_view inputs.items) combined.report.items) }
+    ensures refused { IfErr result (IfTold (λ refusal. IsCombined control.now.scales (map input_view inputs.items) (Err refusal))) }
+    ensures no_fault { IfErr result (λ refusal. status_of refusal ≢ 5) }
+{
+    Err(Refusal::Memory)
+}

@@ -1,0 +1,5 @@
+pub mod Words
+pub mod Files
+pub mod Controls
+pub mod Inputs
+pub mod Views

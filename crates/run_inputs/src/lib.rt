@@ -1,0 +1,12 @@
+//! What a command reads: its words, its control file, and the SINEX files that are combined.
+#![tactic(auto)]
+
+mod controls;
+mod files;
+mod inputs;
+mod words;
+
+pub use controls::read_control_file;
+pub use files::named;
+pub use inputs::{Input, read_inputs};
+pub use words::{CombineNames, Command, SolveNames, read_words};
