@@ -1,6 +1,7 @@
 -- Decimals of one value: their intervals and fractions, and their products in canonical form.
-use Rattle.std.proofs.Common.{◌≡◌, ◌≢◌, ℕ, suc, ℤ, pos, negsuc, ◌+ℤ◌, ◌*ℤ◌, neg_ℤ, ◌≤ℤ◌, ◌<ℤ◌, ◌+◌, ◌*◌, ◌%◌, ◌<◌, ◌^◌, unsigned_abs, Option, None, Some, refl, ap, sym, ◌∙◌, arith, subst}
-use Rattle.std.proofs.lemmas.Int.{ints, unsigned_abs-mul, by_lt_z}
+use Rattle.std.proofs.Common.{◌≡◌, ◌≢◌, ℕ, suc, ℤ, pos, negsuc, ◌+ℤ◌, ◌*ℤ◌, neg_ℤ, ◌≤ℤ◌, ◌<ℤ◌, ◌+◌, ◌*◌, ◌%◌, ◌<◌, ◌^◌, unsigned_abs, FitsSigned, to_z, of_z, Option, None, Some, refl, ap, sym, ◌∙◌, arith, subst}
+use Rattle.std.specs.Int.{w128}
+use Rattle.std.proofs.lemmas.Int.{ints, to_z-of_z, unsigned_abs-mul, by_lt_z}
 use Rattle.std.proofs.lemmas.Nat.{pow-add}
 use Rattle.std.proofs.Math.Nat.{mul-pos}
 use Rattle.whole_numbers.specs.Quotients.{floor_over}
@@ -107,3 +108,18 @@ pub product_none : (a b : Decimal) (s z : ℕ) → s * 10 ^ z ≡ unsigned_abs a
 product_none a b s z v n h =
     let e = a.exp +ℤ b.exp +ℤ pos z in
     (record { mant = signed_like (a.mant *ℤ b.mant) s; exp = e }, (product_form a b s z e v n refl, λ k. h (bounded_parts (a.mant *ℤ b.mant) e s k).0))
+
+-- the same for the words of 128 bits that are equal to these
+pub sizes_are : (a b : Decimal) (m n : ℤ) (x y p : ℕ) → FitsSigned w128 m → FitsSigned w128 n → m ≡ a.mant → n ≡ b.mant → x ≡ unsigned_abs (to_z w128 (of_z w128 m)) → y ≡ unsigned_abs (to_z w128 (of_z w128 n)) → p ≡ x * y → p ≡ unsigned_abs a.mant * unsigned_abs b.mant
+sizes_are a b m n x y p k l f g h i e =
+    let u = simp to_z-of_z at h in
+    let v = simp to_z-of_z at i in
+    e ∙ ap (λ z. z * y) (u ∙ ap unsigned_abs f) ∙ ap (λ z. unsigned_abs a.mant * z) (v ∙ ap unsigned_abs g)
+
+pub signs_are : (a b : Decimal) (m n w : ℤ) (s t : ℕ) → FitsSigned w128 m → FitsSigned w128 n → m ≡ a.mant → n ≡ b.mant → s ≡ t → w ≡ signed_like (to_z w128 (of_z w128 m) *ℤ to_z w128 (of_z w128 n)) s → w ≡ signed_like (a.mant *ℤ b.mant) t
+signs_are a b m n w s t k l f g h i =
+    let e = simp to_z-of_z at i in
+    e ∙ ap (λ z. signed_like (z *ℤ n) s) f ∙ ap (λ z. signed_like (a.mant *ℤ z) s) g ∙ ap (signed_like (a.mant *ℤ b.mant)) h
+
+pub product_same : (a b : Decimal) (s z : ℕ) (w e : ℤ) → w ≡ signed_like (a.mant *ℤ b.mant) s → s * 10 ^ z ≡ unsigned_abs a.mant * unsigned_abs b.mant → s % 10 ≢ 0 → e ≡ a.exp +ℤ b.exp +ℤ pos z → SameValue (record { mant = w; exp = e }) (product a b)
+product_same a b s z w e g v n h = subst (λ (x : ℤ). SameValue (record { mant = x; exp = e }) (product a b)) (sym g) (product_form a b s z e v n h).same

@@ -10,7 +10,7 @@ mod scale;
 mod sizes;
 
 pub use dec::{Dec, one_canonical, one_form};
-pub use product::same_values;
+pub use product::{one_times, same_values};
 pub use read::{DecFault, one_answer, one_numeral, read_dec};
 pub use scale::{ceil_at, floor_at, holds_value, interval_at};
 

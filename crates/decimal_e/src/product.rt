@@ -95,3 +95,8 @@ pub fn same_values()
     ensures interval { (a b : Decimal) (k : ℤ) → SameValue a b → decimal_interval a k ≡ decimal_interval b k }
     ensures fraction { (a b : Decimal) (x : ℤ) (q : ℕ) → SameValue a b → Means a x q → Means b x q }
 {}
+
+/// One times a decimal is that decimal.
+pub fn one_times()
+    ensures { (d : Decimal) → product (record { mant = pos 1; exp = pos 0 }) d ≡ d }
+{}
