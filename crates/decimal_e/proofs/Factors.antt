@@ -104,11 +104,11 @@ pub parts_end : (left right a b n c d m : ℕ) → Parts left right a b n c d m 
 parts_end left right a b n c d m p l r h =
     elim (even_factor c d (omega arith)) [
       | inl x ↦ elim (five_factor c d (omega arith)) [
-          | inl y ↦ l (ap (λ z. z % 10) (sym (left_whole left right a b n c d m p)) ∙ ten_times c (5 ^ m * 2 ^ n) (omega arith))
-          | inr y ↦ p.end (ap (λ z. z % 2) (sym p.fives_left) ∙ even_times c (5 ^ m) x) (ap (λ z. z % 5) (sym p.twos_right) ∙ five_times d (2 ^ m) y)
-        ]
+        | inl y ↦ l (ap (λ z. z % 10) (sym (left_whole left right a b n c d m p)) ∙ ten_times c (5 ^ m * 2 ^ n) (omega arith))
+        | inr y ↦ p.end (ap (λ z. z % 2) (sym p.fives_left) ∙ even_times c (5 ^ m) x) (ap (λ z. z % 5) (sym p.twos_right) ∙ five_times d (2 ^ m) y)
+      ]
       | inr x ↦ elim (five_factor c d (omega arith)) [
-          | inl y ↦ p.end_again x y
-          | inr y ↦ r (ap (λ z. z % 10) (sym (right_whole left right a b n c d m p)) ∙ ten_times d (2 ^ m * 5 ^ n) (omega arith))
-        ]
+        | inl y ↦ p.end_again x y
+        | inr y ↦ r (ap (λ z. z % 10) (sym (right_whole left right a b n c d m p)) ∙ ten_times d (2 ^ m * 5 ^ n) (omega arith))
+      ]
     ]

@@ -7,7 +7,8 @@ ghost use Rattle.decimal_e.specs.Scales.{decimal_interval};
 
 use crate::dec::{Dec, LIMIT};
 
-// Two sizes after as many twos of the first and fives of the second, and how many of each, are taken out.
+// What is left of two sizes when a 2 is taken out of the first and a 5 out of the second as often as both have one,
+// and how often that is.
 fn matched(twos: u128, fives: u128) -> (u128, u128, u32)
     requires twos { (0 < twos) × (twos < 10 ^ 36) }
     requires fives { (0 < fives) × (fives < 10 ^ 36) }
@@ -27,7 +28,7 @@ fn matched(twos: u128, fives: u128) -> (u128, u128, u32)
     (two, five, pairs)
 }
 
-// Two sizes whose product is no multiple of 10, and how many zeros stand behind it in that of the given ones.
+// Two sizes whose product is no multiple of 10, and how many zeros follow it in the product of the given ones.
 fn parted(left: u128, right: u128) -> (u128, u128, u32)
     requires left { (left < 10 ^ 36) × (left % 10 ≢ 0) }
     requires right { (right < 10 ^ 36) × (right % 10 ≢ 0) }
@@ -66,7 +67,7 @@ fn with_signs(left: i128, right: i128, size: u128) -> i128
     }
 }
 
-// The exponent of a product with so many zeros behind it.
+// The exponent of a product of which so many zeros are taken off.
 fn exponent_of(left: &Dec, right: &Dec, zeros: u32) -> i32
     requires { zeros ≤ 240 }
     ensures { result ≡ left.now.exp +ℤ right.now.exp +ℤ pos zeros }
@@ -84,13 +85,16 @@ impl Dec {
         }
         let (left, right, zeros) = parted(self.mant().unsigned_abs(), other.mant().unsigned_abs());
         match small_product(left, right) {
-            Some(size) => Dec::new(with_signs(self.mant(), other.mant(), size), exponent_of(self, other, zeros)),
+            Some(size) => Dec::new(
+                with_signs(self.mant(), other.mant(), size),
+                exponent_of(self, other, zeros),
+            ),
             None => None,
         }
     }
 }
 
-/// Decimals of one value have one interval at each power of ten and mean the same fractions.
+/// Decimals of one value have the same interval at each power of ten, and mean the same fractions.
 pub fn same_values()
     ensures interval { (a b : Decimal) (k : ℤ) → SameValue a b → decimal_interval a k ≡ decimal_interval b k }
     ensures fraction { (a b : Decimal) (x : ℤ) (q : ℕ) → SameValue a b → Means a x q → Means b x q }
