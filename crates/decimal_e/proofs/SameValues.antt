@@ -1,5 +1,5 @@
 -- Decimals of one value: their intervals and fractions, and their products in canonical form.
-use Rattle.std.proofs.Common.{◌≡◌, ◌≢◌, ℕ, suc, ℤ, pos, negsuc, ◌+ℤ◌, ◌*ℤ◌, neg_ℤ, ◌≤ℤ◌, ◌<ℤ◌, ◌+◌, ◌*◌, ◌%◌, ◌<◌, ◌^◌, unsigned_abs, FitsSigned, to_z, of_z, Option, None, Some, refl, ap, sym, ◌∙◌, arith, subst}
+use Rattle.std.proofs.Common.{◌≡◌, ◌≢◌, ℕ, suc, ℤ, pos, negsuc, ◌+ℤ◌, ◌*ℤ◌, neg_ℤ, ◌+◌, ◌*◌, ◌%◌, ◌<◌, ◌^◌, unsigned_abs, FitsSigned, to_z, of_z, Option, None, Some, refl, ap, sym, ◌∙◌, arith, subst}
 use Rattle.std.specs.Int.{w128}
 use Rattle.std.proofs.lemmas.Int.{ints, to_z-of_z, unsigned_abs-mul, by_lt_z}
 use Rattle.std.proofs.lemmas.Nat.{pow-add}
@@ -12,7 +12,7 @@ use Rattle.whole_numbers.proofs.EqualFractions.{same_from_product}
 use Rattle.whole_numbers.proofs.IntervalLaws.{floor_over_le, lt-floor_over}
 use Rattle.whole_numbers.proofs.Powers.{ten_pow_above}
 use Rattle.whole_numbers.proofs.Ring.{ring, *ℤ_assoc, +ℤ-*ℤ, neg-*ℤ, mul_mono_pos}
-use Rattle.decimal_e.specs.Decimals.{Decimal, SameValue, IsCanonicalOf, IsBounded, IsDecOf, product, signed_like}
+use Rattle.decimal_e.specs.Decimals.{Decimal, SameValue, IsCanonicalOf, IsDecOf, product, signed_like}
 use Rattle.decimal_e.specs.Fractions.{Means}
 use Rattle.decimal_e.specs.Scales.{decimal_interval}
 use Rattle.decimal_e.proofs.Values.{decimal_by, same_sym, same_trans, lifted, gap, ten_below_some, stripped_form, bounded_parts, zero_form}

@@ -1,5 +1,5 @@
 -- Decimals: a whole number times a power of ten.
-use Rattle.std.specs.Prelude.{◌≡◌, ◌≢◌, ℕ, suc, ℤ, pos, negsuc, ◌+ℤ◌, ◌*ℤ◌, neg_ℤ, ◌≤ℤ◌, ◌<◌, ◌*◌, ◌^◌, ◌%◌, unsigned_abs, Option, None, Some}
+use Rattle.std.specs.Prelude.{◌≡◌, ◌≢◌, ℕ, ℤ, pos, negsuc, ◌+ℤ◌, ◌*ℤ◌, neg_ℤ, ◌≤ℤ◌, ◌<◌, ◌*◌, ◌^◌, ◌%◌, unsigned_abs, Option, None, Some}
 use Rattle.whole_numbers.specs.Scaling.{ten_above, ten_below}
 
 -- the number mant * 10^exp
