@@ -119,6 +119,21 @@ fn decimals_are_rounded(rt: HostRuntime) -> Result<(), Fail> {
     Ok(())
 }
 
+// 2^118
+fn twos() -> Option<Dec> {
+    Dec::new(332_306_998_946_228_968_225_951_765_070_086_144, 0)
+}
+
+// -5^50
+fn fives() -> Option<Dec> {
+    Dec::new(-88_817_841_970_012_523_233_890_533_447_265_625, 0)
+}
+
+// 10^35 + 1
+fn long() -> Option<Dec> {
+    Dec::new(100_000_000_000_000_000_000_000_000_000_000_001, 0)
+}
+
 // The product's mantissa and exponent.
 fn multiplied(left: Option<Dec>, right: Option<Dec>) -> Option<(i128, i32)> {
     let product = left?.times(&right?)?;
@@ -129,15 +144,17 @@ fn multiplied(left: Option<Dec>, right: Option<Dec>) -> Option<(i128, i32)> {
 fn decimals_are_multiplied(rt: HostRuntime) -> Result<(), Fail> {
     one_times();
     same_values();
-    // 2^118 times 5^50 is 2^68 times 10^50.
-    let twos = Dec::new(332_306_998_946_228_968_225_951_765_070_086_144, 0);
-    let fives = Dec::new(-88_817_841_970_012_523_233_890_533_447_265_625, 0);
-    let whole = Some((-295_147_905_179_352_825_856, 50));
-    assert_eq!(rt; multiplied(twos, fives), whole);
-    assert_eq!(rt; multiplied(fives, twos), whole);
-    let long = Dec::new(100_000_000_000_000_000_000_000_000_000_000_001, 0);
-    assert_eq!(rt; multiplied(long, long), None);
-    assert_eq!(rt; multiplied(long, Dec::new(0, 0)), Some((0, 0)));
+    // Minus 2^68 times 10^50.
+    assert_eq!(rt;
+        multiplied(twos(), fives()),
+        Some((-295_147_905_179_352_825_856, 50))
+    );
+    assert_eq!(rt;
+        multiplied(fives(), twos()),
+        Some((-295_147_905_179_352_825_856, 50))
+    );
+    assert_eq!(rt; multiplied(long(), long()), None);
+    assert_eq!(rt; multiplied(long(), Dec::new(0, 0)), Some((0, 0)));
     assert_eq!(rt; multiplied(Dec::new(0, 0), Dec::new(-1, 120)), Some((0, 0)));
     assert_eq!(rt;
         multiplied(Dec::new(-3, -2), Dec::new(-7, 1)),
