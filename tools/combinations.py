@@ -36,7 +36,7 @@ class Run:
 
     def is_as_wanted(self):
         _, line, made = self.answer
-        return self.wants in (None, made.get("report")) or line == f"snxcomb: {self.wants}\n"
+        return self.wants is None or self.wants == made.get("report") or line == f"snxcomb: {self.wants}\n"
 
 
 # ---- builders
@@ -209,9 +209,9 @@ def chances():
 
 
 def examples():
-    files = {path.name: path.read_bytes() for path in sorted(EXAMPLES.iterdir())}
-    if "combination.toml" in files:
-        yield Run("the example", files, words=["combine", "combination.toml", "out", "report"])
+    files = {path.name: path.read_bytes() for path in sorted((EXAMPLES / "combination").iterdir())}
+    yield Run("the example", files, words=["combine", "control.toml", "combined.snx", "report.txt"])
+    yield Run("one of its files", files, words=["solve", "north.snx", "report.txt"])
 
 
 def control_texts():
