@@ -1,3 +1,4 @@
 pub mod Blocks
 pub mod Recovery
 pub mod Exact
+pub mod Shown

@@ -15,6 +15,14 @@ ghost use Rattle.recover_neq.specs.Exact.{IsExact, MultiplesAreExact};
 ghost use Rattle.recover_neq.specs.declared.RecoverError.TheVariants.{Memory, Fault};
 ghost use Rattle.recover_neq.specs.declared.RecoverFault.TheVariants.{MissingBlock};
 
+mod columns;
+mod intervals;
+mod limits;
+mod making;
+mod naming;
+
+use crate::making::{modest, shown};
+use crate::naming::first_unmatched;
 use decimal_e::Dec;
 use neq_stack::Neq;
 use param_ids::{ParamId, Scales};
@@ -68,6 +76,38 @@ impl From<RecoverFault> for RecoverError {
     }
 }
 
+/// Each row of the right side has an a priori row of its name.
+fn all_matched(alloc: Global, apriori: &[Row], vector: &[Row]) -> Result<(), RecoverError>
+    requires { AreSound Value apriori.now }
+    ensures ok { IfOk result (λ _. (blocks : Blocks) → blocks.apriori ≡ apriori.now → blocks.vector ≡ vector.now
+        → Ok tt ≡ matched blocks) }
+    ensures refused { IfErr result (λ cause. (cause ≡ Memory) ⊎ ((fault : RecoverFault) × (cause ≡ Fault fault)
+        × ((blocks : Blocks) → blocks.apriori ≡ apriori.now → blocks.vector ≡ vector.now → Err fault ≡ matched blocks))) }
+{
+    match first_unmatched(alloc, apriori, vector)? {
+        Some(id) => Err(RecoverError::Fault(RecoverFault::Unmatched { id })),
+        None => Ok(()),
+    }
+}
+
+/// The right side has a row.
+fn some_row(vector: &[Row]) -> Result<(), RecoverFault>
+    ensures { (blocks : Blocks) → blocks.vector ≡ vector.now → result ≡ filled blocks }
+{
+    if vector.is_empty() {
+        Err(RecoverFault::Empty)
+    } else {
+        Ok(())
+    }
+}
+
+/// The document lacks this block.
+fn missing(block: Section) -> RecoverError
+    ensures { result ≡ Fault (MissingBlock block) }
+{
+    RecoverError::Fault(RecoverFault::MissingBlock { block })
+}
+
 /// The normal equations of a document, in intervals by name, with the weight of its file. The a priori values are the document's.
 ///
 /// # Errors
@@ -89,10 +129,33 @@ pub fn recover<const N: usize>(
     ensures modest { IfOk result (λ neq. AreAtMost (10 ^ 34) (neq_view neq)) }
     ensures exponents { IfOk result (λ neq. (neq_view neq).scales ≡ map (scale_of scales.now) (neq_view neq).names) }
 {
-    Err(RecoverError::Memory)
+    let Some(apriori) = &doc.apriori else {
+        return Err(missing(Section::Apriori));
+    };
+    let Some(vector) = &doc.vector else {
+        return Err(missing(Section::Vector));
+    };
+    let Some(matrix) = &doc.normal_matrix else {
+        return Err(missing(Section::NormalMatrix));
+    };
+    all_matched(alloc, apriori, vector)?;
+    some_row(vector)?;
+    let neq = shown(alloc, apriori, vector, &matrix.cells, weight, scales)?;
+    modest(&neq)?;
+    Ok(neq)
 }
 
 /// A document has one recovery at most: normal equations, or a first cause, and never both.
 pub fn one_recovery()
     ensures { OneRecovery }
+{}
+
+/// With an exact system of a document also each multiple of it is exact.
+pub fn exact_multiples()
+    ensures { MultiplesAreExact }
+{}
+
+/// The parameters of recovered normal equations are those of the a priori rows of their names.
+pub fn recovered_parameters()
+    ensures { RecoveredParameters }
 {}
