@@ -2,11 +2,12 @@
 
 ghost use Rattle.std.specs.Prelude.{◌≡◌, ◌≤◌, ◌<◌, ℕ, ℤ, pos, negsuc, ◌≤ℤ◌, ◌-ℤ◌, All, IfOk, length, slice_index, slice_index_or};
 ghost use Rattle.whole_numbers.specs.Lists.{at};
+ghost use Rattle.decimal_e.specs.Decimals.{product};
 ghost use Rattle.decimal_e.specs.Scales.{decimal_interval};
 ghost use Rattle.sym_blocks.specs.Tables.{before, zero_interval};
 ghost use Rattle.param_ids.specs.Tables.{IsScale};
 ghost use Rattle.snx_matrices.specs.Elements.{IsPlaced};
-ghost use Rattle.recover_neq.specs.Shown.{StandsFor, ShowsEntries, right_at};
+ghost use Rattle.recover_neq.specs.Shown.{IsKept, StandsFor, ShowsEntries, right_number, row_power};
 
 use crate::columns::value_or_zero;
 use decimal_e::{Dec, interval_at};
@@ -23,10 +24,22 @@ const FAR: i128 = 100_000_000_000_000_000_000_000_000_000_000_000;
 fn shown_at(d: &Dec, k: i32) -> Iv
     requires low { negsuc 99 ≤ℤ k }
     requires high { k ≤ℤ pos 100 }
-    ensures { StandsFor (decimal_interval d.now k) result }
+    ensures { IsKept (decimal_interval d.now k) result }
 {
     match interval_at(d, k) {
         Some(interval) => interval,
+        None => Iv::point(FAR),
+    }
+}
+
+/// The interval of a decimal times the weight, times 10^k, or one that is too great, as it is.
+fn weighted_at(weight: &Dec, d: &Dec, k: i32) -> Iv
+    requires low { negsuc 99 ≤ℤ k }
+    requires high { k ≤ℤ pos 100 }
+    ensures { StandsFor (product weight.now d.now) k result }
+{
+    match weight.times(d) {
+        Some(number) => shown_at(&number, k),
         None => Iv::point(FAR),
     }
 }
@@ -72,9 +85,10 @@ fn rank_at(ranks: &[usize], row: u32) -> usize
     ranks[row as usize]
 }
 
-/// The intervals of the elements, by the places of their names.
+/// The intervals of the elements times the weight, by the places of their names.
 pub fn table_of<const N: usize>(
     alloc: Global,
+    weight: &Dec,
     cells: &[Cell],
     ranks: &[usize],
     exponents: &[i32],
@@ -85,22 +99,23 @@ pub fn table_of<const N: usize>(
     requires cells { All (IsPlaced (length ranks.now)) cells.now }
     ensures size { IfOk result (λ table. table.size ≡ length exponents.now) }
     ensures whole { IfOk result (λ table. length table.entries ≡ before table.size) }
-    ensures shown { IfOk result (ShowsEntries cells.now ranks.now exponents.now) }
+    ensures shown { IfOk result (ShowsEntries weight.now cells.now ranks.now exponents.now) }
 {
     let mut table = SymBlock::<N>::zero(alloc, exponents.len())?;
     for place in (0..cells.len()).rev() {
         let cell = cells[place];
         let row = rank_at(ranks, cell.row);
         let col = rank_at(ranks, cell.col);
-        let interval = shown_at(&cell.value, pair_scale(exponents, row, col));
+        let interval = weighted_at(weight, &cell.value, pair_scale(exponents, row, col));
         table.set(row, col, interval);
     }
     Ok(table)
 }
 
-/// The intervals of the values of rows.
+/// The intervals of the values of rows times the weight.
 pub fn rights_of(
     alloc: Global,
+    weight: &Dec,
     rows: &[Option<Row>],
     exponents: &[i32],
 ) -> Result<Vec<Iv>, AllocError>
@@ -108,12 +123,12 @@ pub fn rights_of(
     requires scales { All IsScale exponents.now }
     ensures len { IfOk result (λ right. length right.items ≡ length rows.now) }
     ensures shown { IfOk result (λ right. (i : ℕ) → i < length rows.now
-        → StandsFor (right_at rows.now exponents.now i) (slice_index_or right.items i zero_interval)) }
+        → StandsFor (right_number weight.now rows.now i) (row_power exponents.now i) (slice_index_or right.items i zero_interval)) }
 {
     let mut right = Vec::new(alloc);
     for place in 0..rows.len() {
         let value = value_or_zero(&rows[place]);
-        right.push(shown_at(&value, row_scale(exponents, place)))?;
+        right.push(weighted_at(weight, &value, row_scale(exponents, place)))?;
     }
     Ok(right)
 }

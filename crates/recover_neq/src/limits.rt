@@ -3,7 +3,7 @@
 ghost use Rattle.std.specs.Prelude.{◌≡◌, ◌≤◌, ◌<◌, ◌+◌, ◌^◌, MatchOption, length, slice_index_or};
 ghost use Rattle.stated_order.specs.First.{HoldsBelow, HoldsLower, IsFirstFailure, IsFirstLowerFailure};
 ghost use Rattle.sym_blocks.specs.Tables.{entry_at, zero_interval};
-ghost use Rattle.recover_neq.specs.Recovery.{IsModest};
+ghost use Rattle.recover_neq.specs.Shown.{IsModest};
 
 use interval_word::Iv;
 use sym_blocks::SymBlock;

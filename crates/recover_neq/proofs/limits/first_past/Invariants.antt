@@ -1,6 +1,6 @@
 use Rattle.stated_order.specs.First.{HoldsLower}
 use Rattle.sym_blocks.specs.Tables.{entry_at}
-use Rattle.recover_neq.specs.Recovery.{IsModest}
+use Rattle.recover_neq.specs.Shown.{IsModest}
 use Rattle.recover_neq.proofs.limits.first_past.Given as goal
 
 abbrev pub invariant-loop-row : goal.invariant-loop-row
