@@ -5,7 +5,7 @@ use Rattle.toml.specs.declared.value.Value.{Value}
 use Rattle.control_doc.specs.Control.{table_in}
 use Rattle.control_doc.specs.Views.{control_view}
 use Rattle.control_doc.proofs.TextSteps.{read_stops, read_goes}
-use Rattle.control_doc.proofs.reading.read_control.Goals as goal
+use Rattle.control_doc.proofs.reading.control_in.Goals as goal
 
 pub returns-in_err-table : goal.returns-in_err-table
 returns-in_err-table c =
