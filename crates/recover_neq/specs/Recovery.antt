@@ -97,7 +97,7 @@ IsFirstUnfit blocks weight scales names i j =
     IsFirstLowerFailure (length names) (EntryFits blocks weight scales names) i j
     ⊎ ((i ≡ j) × HoldsLower (length names) (EntryFits blocks weight scales names) × IsFirstFailure (length names) (RightFits blocks weight scales names) i)
 
--- the first is that of these names in order
+-- row and col are the names of the first that does not
 pub record IsUnfit (blocks : Blocks) (weight : Decimal) (scales : ScaleMap) (row col : PlainId) : Type 0 where
   pub names : List PlainId
   pub in_order : AreNamesOf blocks names
