@@ -1,5 +1,5 @@
 -- Sites, list by list.
-use Rattle.std.proofs.Common.{◌≡◌, ◌++◌, ◌∷◌, List, [], ℕ, Option, Some, None, refl, ap, sym, append_assoc}
+use Rattle.std.proofs.Common.{◌≡◌, ◌<◌, ◌≤◌, ◌++◌, ◌∷◌, map, length, Bor, arith, List, [], ℕ, Option, Some, None, refl, ap, sym, append_assoc}
 use Rattle.std.specs.Option.{option_and_then}
 use Rattle.control_doc.specs.Control.{site_of, sites_of}
 use Rattle.control_doc.specs.declared.plans.Site.{Site}
@@ -14,3 +14,17 @@ sites_more done texts x rest is = rw is (one_more done x (sites_of rest))
 
 pub sites_none : (done : List Site) (texts : List (List ℕ)) (rest : List (List (List ℕ))) → site_of texts ≡ None → before done (sites_of (texts ∷ rest)) ≡ None
 sites_none done texts rest is = rw is refl
+
+-- a list of texts that are not three is no site
+pub too_few : (ts : List (Bor (List ℕ))) → length ts < 3 → site_of (map (λ text. text.now) ts) ≡ None
+too_few [] h = refl
+too_few (a ∷ []) h = refl
+too_few (a ∷ b ∷ []) h = refl
+too_few (a ∷ b ∷ c ∷ rest) h = absurd (omega arith)
+
+pub too_many : (ts : List (Bor (List ℕ))) → 4 ≤ length ts → site_of (map (λ text. text.now) ts) ≡ None
+too_many [] h = absurd (omega arith)
+too_many (a ∷ []) h = absurd (omega arith)
+too_many (a ∷ b ∷ []) h = absurd (omega arith)
+too_many (a ∷ b ∷ c ∷ []) h = absurd (omega arith)
+too_many (a ∷ b ∷ c ∷ d ∷ rest) h = refl

@@ -6,18 +6,18 @@ ghost use Rattle.control_doc.specs.declared.faults.ControlError.TheVariants.{Mem
 use std::alloc::{AllocError, AllocFailed};
 use thiserror::Error;
 
-/// Why a control file says no control.
+/// Why a control file says no control. `read_control` never gives `SameName`, which is for whoever knows the other names.
 #[derive(Clone, Copy, Debug, PartialEq, Eq)]
 pub enum ControlCause {
     /// The text is no TOML.
     Syntax,
     /// A key that is not known, or one that is missing.
     Key,
-    /// A value of another kind.
+    /// A value of another kind, also inside a list.
     Kind,
-    /// A wrong value.
+    /// A wrong value, or a name of what is not there.
     Value,
-    /// What stood before.
+    /// What stood before: a file name, a site, a parameter.
     Repeated,
     /// More files than may be combined.
     TooMany,

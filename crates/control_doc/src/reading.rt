@@ -149,7 +149,8 @@ fn control_in(alloc: Global, text: &[u8]) -> Result<Control, ControlError>
 ///
 /// # Errors
 ///
-/// The first fault of the text, with its cause and the path of its key; or want of memory, which may come in the place of any answer.
+/// The first fault of the text, with its cause and the path of its key; or want of memory, which
+/// may come in the place of any answer.
 pub fn read_control(alloc: Global, text: &[u8]) -> Result<Control, ControlError>
     ensures read { Answers control_view (IsRead text.now) result }
     ensures valid { IfOk result (λ control. IsValidControl (control_view control)) }
