@@ -1,7 +1,10 @@
 //! Normal equations by the names of their parameters.
 #![tactic(auto)]
 
+mod adding;
+mod places;
 mod stacking;
+mod values;
 
 use decimal_e::Dec;
 use interval_word::Iv;
