@@ -1,2 +1,6 @@
 pub mod NameLaws
 pub mod AddLaws
+pub mod PlaceLaws
+pub mod SumLaws
+pub mod AnyLaws
+pub mod ParameterLaws

@@ -1,11 +1,12 @@
 -- Two normal equations put together, by the places of their names.
-use Rattle.std.specs.Prelude.{◌≡◌, ◌<◌, ℕ, List, Option, Some, None, IfSome, length, slice_get, slice_index_or}
+use Rattle.std.specs.Prelude.{◌≡◌, ◌<◌, ◌≤◌, ℕ, List, Option, Some, None, IfSome, length, map, slice_get, slice_index_or}
 use Rattle.std.specs.Option.{option_or}
-use Rattle.whole_numbers.specs.Intervals.{Interval}
-use Rattle.sym_blocks.specs.Tables.{SymTable}
+use Rattle.whole_numbers.specs.Intervals.{Interval, interval_add}
+use Rattle.sym_blocks.specs.Tables.{SymTable, word, before, zero_interval}
 use Rattle.param_ids.specs.Plain.{PlainId}
+use Rattle.param_ids.specs.Union.{IsUnion}
 use Rattle.neq_stack.specs.Neqs.{PlainNeq}
-use Rattle.neq_stack.specs.ByName.{entry_at_places, right_at_place}
+use Rattle.neq_stack.specs.ByName.{entry_at_places, right_at_place, place_in}
 use Rattle.neq_stack.specs.Stacks.{AreNamesOf}
 
 -- the place that is said of a name, if one is
@@ -38,3 +39,34 @@ pub record HaveMany (parts : List PlainNeq) (count : ℕ) : Type 0 where
   pub together : AreNamesOf parts names
   pub count_is : count ≡ length names
   pub many : 1000 < count
+
+-- ones and others are the places of names in two parts, and a list has what stands first at them
+abbrev pub AreFirst : {X : Type 0} → List X → List (Option ℕ) → List X → List (Option ℕ) → List X → Type 0
+AreFirst one ones other others list = (k : ℕ) → k < length ones → slice_get list k ≡ first_value one other (place_at ones k) (place_at others k)
+
+-- of each name its place in a part
+abbrev pub places_in : PlainNeq → List PlainId → List (Option ℕ)
+places_in part names = map (place_in part.names) names
+
+-- the names of two parts, at most 1,000, and of each its place in either part
+pub record AreLaid (one other : PlainNeq) (names : List PlainId) (ones others : List (Option ℕ)) : Type 0 where
+  pub union : IsUnion one.names other.names names
+  pub few : length names ≤ 1000
+  pub first : ones ≡ places_in one names
+  pub second : others ≡ places_in other names
+
+-- normal equations over the names of two parts, with the sums of their intervals and the parameters of the first that has one
+pub record IsJoined (one other neq : PlainNeq) : Type 0 where
+  pub union : IsUnion one.names other.names neq.names
+  pub few : length neq.names ≤ 1000
+  pub rows : neq.table.size ≡ length neq.names
+  pub whole : length neq.table.words ≡ before neq.table.size
+  pub entries : (i j : ℕ) → i < length neq.names → j ≤ i → word neq.table i j ≡ interval_add (entry_by one.table (places_in one neq.names) i j) (entry_by other.table (places_in other neq.names) i j)
+  pub right_length : length neq.right ≡ length neq.names
+  pub rights : (i : ℕ) → i < length neq.names → slice_index_or neq.right i zero_interval ≡ interval_add (right_by one.right (places_in one neq.names) i) (right_by other.right (places_in other neq.names) i)
+  pub value_length : length neq.apriori ≡ length neq.names
+  pub values : AreFirst one.apriori (places_in one neq.names) other.apriori (places_in other neq.names) neq.apriori
+  pub unit_length : length neq.units ≡ length neq.names
+  pub units : AreFirst one.units (places_in one neq.names) other.units (places_in other neq.names) neq.units
+  pub scale_length : length neq.scales ≡ length neq.names
+  pub scales : AreFirst one.scales (places_in one neq.names) other.scales (places_in other neq.names) neq.scales

@@ -1,10 +1,10 @@
 //! Intervals of a part added to those of a stack, by the places of names.
 
-ghost use Rattle.std.specs.Prelude.{◌≡◌, ◌≢◌, ◌≤◌, ◌<◌, ℕ, IfSome, length, slice_index_or};
+ghost use Rattle.std.specs.Prelude.{◌≡◌, ◌≢◌, ◌≤◌, ◌<◌, ℕ, IfSome, length};
 ghost use Rattle.whole_numbers.specs.Intervals.{interval_add};
-ghost use Rattle.sym_blocks.specs.Tables.{before, word, zero_interval, SumFits};
+ghost use Rattle.sym_blocks.specs.Tables.{before, word, SumFits};
 ghost use Rattle.neq_stack.specs.ByName.{entry_at_places, right_at_place};
-ghost use Rattle.neq_stack.specs.Joining.{AreWithin, entry_by, right_by};
+ghost use Rattle.neq_stack.specs.Joining.{AreWithin, entry_by};
 
 use crate::places::said_at;
 use interval_word::Iv;
@@ -26,7 +26,7 @@ fn entry_at<const N: usize>(table: &SymBlock<N>, row: Option<usize>, col: Option
 }
 
 /// The sum of two intervals.
-fn sum(one: &Iv, other: &Iv) -> Iv
+pub fn sum(one: &Iv, other: &Iv) -> Iv
     requires { SumFits one.now other.now }
     ensures { result ≡ interval_add one.now other.now }
 {
@@ -78,7 +78,7 @@ pub fn add_table<const N: usize>(
 }
 
 /// The interval of a right side at a place, or zero.
-fn right_at(right: &[Iv], place: Option<usize>) -> Iv
+pub fn right_at(right: &[Iv], place: Option<usize>) -> Iv
     requires { IfSome place (λ i. i < length right.now) }
     ensures { result ≡ right_at_place right.now place }
 {
@@ -86,25 +86,4 @@ fn right_at(right: &[Iv], place: Option<usize>) -> Iv
         return Iv::point(0);
     };
     right[i]
-}
-
-/// An interval of a list.
-fn interval_at(list: &[Iv], k: usize) -> Iv
-    requires { k < length list.now }
-    ensures { result ≡ slice_index_or list.now k zero_interval }
-{
-    list[k]
-}
-
-/// Adds the intervals of a right side, by the places of names in it.
-pub fn add_rights(into: &mut [Iv], right: &[Iv], places: &[Option<usize>])
-    requires lengths { length places.now ≡ length into.old }
-    requires within { AreWithin (length right.now) places.now }
-    requires fits { (i : ℕ) → i < length into.old → SumFits (slice_index_or into.old i zero_interval) (right_by right.now places.now i) }
-    ensures { (i : ℕ) → i < length into.old → slice_index_or into.new i zero_interval ≡ interval_add (slice_index_or into.old i zero_interval) (right_by right.now places.now i) }
-{
-    for k in 0..places.len() {
-        let more = right_at(right, said_at(places, k));
-        into[k] = sum(&interval_at(into, k), &more);
-    }
 }

@@ -2,6 +2,7 @@
 #![tactic(auto)]
 
 mod adding;
+mod joining;
 mod places;
 mod stacking;
 mod values;
