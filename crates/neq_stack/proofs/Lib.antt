@@ -4,3 +4,5 @@ pub mod PlaceLaws
 pub mod SumLaws
 pub mod AnyLaws
 pub mod ParameterLaws
+pub mod PlacedLaws
+pub mod PairLaws

@@ -69,7 +69,7 @@ module _ {X : Type 0} (xs ys : List X) where
     where
       some_here : (ys : List X) (j : ℕ) → j < length ys → IsSome (slice_get ys j)
       some_here [] j lt = absurd (omega arith)
-      some_here (y ∷ ys) zero lt = tt
+      some_here (y ∷ ys) zero lt = refl
       some_here (y ∷ ys) (suc j) lt = some_here ys j (omega arith)
 
 -- a name of two parts has a place in one of them

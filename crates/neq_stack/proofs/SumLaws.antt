@@ -1,7 +1,8 @@
 -- Sums of intervals.
-use Rattle.std.proofs.Common.{◌≡◌, ◌≤◌, ◌<◌, ◌+◌, ◌*◌, ◌^◌, ◌∙◌, ◌++◌, ◌∷◌, ℕ, ℤ, pos, ◌+ℤ◌, List, [], map, length, FitsSigned, refl, sym, ap, subst, arith}
+use Rattle.std.proofs.Common.{◌≡◌, ◌≤◌, ◌<◌, ◌+◌, ◌*◌, ◌^◌, ◌∙◌, ◌++◌, ◌∷◌, ℕ, ℤ, pos, ◌+ℤ◌, List, [], All, map, length, FitsSigned, refl, sym, ap, subst, arith}
 use Rattle.std.specs.Int.{w128}
 use Rattle.std.proofs.lemmas.Int.{ints}
+use Rattle.std.proofs.lemmas.List.Elements.{All-tail}
 use Rattle.whole_numbers.specs.Intervals.{Interval, interval_add, size}
 use Rattle.sym_blocks.specs.Tables.{SumFits, zero_interval}
 use Rattle.neq_stack.specs.Stacks.{sum_of_intervals}
@@ -32,9 +33,9 @@ pub sum_append : (xs ys : List Interval) → sum_of_intervals (xs ++ ys) ≡ int
 sum_append [] ys = sym (zero_add (sum_of_intervals ys))
 sum_append (x ∷ xs) ys = ap (interval_add x) (sum_append xs ys) ∙ sym (add_assoc x (sum_of_intervals xs) (sum_of_intervals ys))
 
-pub sum_of_zeros : {X : Type 0} (f : X → Interval) (xs : List X) → ((x : X) → f x ≡ zero_interval) → sum_of_intervals (map f xs) ≡ zero_interval
+pub sum_of_zeros : {X : Type 0} (f : X → Interval) (xs : List X) → All (λ x. f x ≡ zero_interval) xs → sum_of_intervals (map f xs) ≡ zero_interval
 sum_of_zeros f [] none = refl
-sum_of_zeros f (x ∷ xs) none = ap (λ w. interval_add w (sum_of_intervals (map f xs))) (none x) ∙ zero_add (sum_of_intervals (map f xs)) ∙ sum_of_zeros f xs none
+sum_of_zeros f (x ∷ xs) none = ap (λ w. interval_add w (sum_of_intervals (map f xs))) (none 0 x (omega arith)) ∙ zero_add (sum_of_intervals (map f xs)) ∙ sum_of_zeros f xs (All-tail (λ x. f x ≡ zero_interval) x xs none)
 
 -- what stands where intervals were added to zero, and others to that
 pub on_zero : (z w e : Interval) → z ≡ zero_interval → w ≡ interval_add z e → w ≡ e

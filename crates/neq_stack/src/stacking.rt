@@ -3,10 +3,13 @@
 ghost use Rattle.std.specs.Prelude.{◌≡◌, ◌<◌, ◌+◌, ◌*◌, ◌^◌, ◌∷◌, ℕ, [], All, IfOk, IfErr, OnOk, OnErr, Ok, length, map};
 ghost use Rattle.neq_stack.specs.Neqs.{IsSound, neq_view};
 ghost use Rattle.neq_stack.specs.ByName.{Agree, AllAgree, AreAtMost};
-ghost use Rattle.neq_stack.specs.Stacks.{IsStacked, IsRefused};
+ghost use Rattle.neq_stack.specs.Stacks.{IsStackOf, IsStacked, IsRefused};
 
 use crate::Neq;
-use std::alloc::Global;
+use crate::joining::joined;
+use param_ids::Names;
+use std::alloc::{AllocError, Global};
+use sym_blocks::SymBlock;
 use thiserror::Error;
 
 /// Why normal equations are not stacked.
@@ -43,7 +46,39 @@ pub fn stack<const N: usize>(
     ensures refused { IfErr result (IsRefused (neq_view into.old ∷ neq_view other.now ∷ [])) }
     ensures kept { OnErr result (neq_view into.new ≡ neq_view into.old) }
 {
-    Err(StackError::Memory)
+    match joined(alloc, &*into, other) {
+        Ok(neq) => {
+            *into = neq;
+            Ok(())
+        }
+        Err(cause) => Err(cause),
+    }
+}
+
+/// Normal equations without a parameter.
+fn empty<const N: usize>(alloc: Global) -> Result<Neq<N>, AllocError>
+    ensures { IfOk result (λ neq. IsStackOf [] (neq_view neq)) }
+{
+    let names = no_names(alloc)?;
+    let table = SymBlock::<N>::zero(alloc, 0)?;
+    Ok(Neq {
+        names,
+        table,
+        right: Vec::new(alloc),
+        apriori: Vec::new(alloc),
+        units: Vec::new(alloc),
+        scales: Vec::new(alloc),
+    })
+}
+
+/// No names.
+fn no_names(alloc: Global) -> Result<Names, AllocError>
+    ensures { IfOk result (λ names. names ≡ []) }
+{
+    match Names::from_list(alloc, &[]) {
+        Ok(names) => Ok(names),
+        Err(_) => Err(AllocError),
+    }
 }
 
 /// The stack of some normal equations, added in their order.
@@ -59,5 +94,16 @@ pub fn stack_all<const N: usize>(alloc: Global, parts: &[&Neq<N>]) -> Result<Neq
     ensures stacked { IfOk result (λ neq. IsStacked (map (λ part. neq_view part.now) parts.now) (Ok (neq_view neq))) }
     ensures refused { IfErr result (IsRefused (map (λ part. neq_view part.now) parts.now)) }
 {
-    Err(StackError::Memory)
+    let mut sum = match empty(alloc) {
+        Ok(neq) => neq,
+        Err(_) => return Err(StackError::Memory),
+    };
+    for k in 0..parts.len() {
+        let more = match joined(alloc, &sum, parts[k]) {
+            Ok(neq) => neq,
+            Err(cause) => return Err(cause),
+        };
+        sum = more;
+    }
+    Ok(sum)
 }
