@@ -6,3 +6,7 @@ pub mod AnyLaws
 pub mod ParameterLaws
 pub mod PlacedLaws
 pub mod PairLaws
+pub mod RegroupLaws
+pub mod FewerLaws
+pub mod GrowLaws
+pub mod AtMostLaws

@@ -98,8 +98,7 @@ module _ (one other neq : PlainNeq) (one_sound : IsSound one) (other_sound : IsS
       elim (one_has one other neq.names k id joined.union is) [
         | inl h ↦
             let p = some_stands one h.0 one_sound (slice_get_within one.names h.0 id h.1) in
-            let at = at_one ∙ h.2 in
-            (
+            let at = at_one ∙ h.2 in (
               p.0,
               record {
                 value_is = joined.values k within ∙ first_here one.apriori other.apriori here there h.0 p.0.value at p.1.value_is;
@@ -112,8 +111,7 @@ module _ (one other neq : PlainNeq) (one_sound : IsSound one) (other_sound : IsS
             let j = h.1.0 in
             let p = some_stands other j other_sound (slice_get_within other.names j id h.1.1) in
             let none = at_one ∙ h.0 in
-            let at = at_other ∙ h.1.2 in
-            (
+            let at = at_other ∙ h.1.2 in (
               p.0,
               record {
                 value_is = joined.values k within ∙ first_there one.apriori other.apriori here there j p.0.value none at p.1.value_is;

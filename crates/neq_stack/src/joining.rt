@@ -133,7 +133,13 @@ fn table_over<const N: usize>(
     ensures sums { IfOk result (λ table. (i j : ℕ) → i < length layout.now.names → j ≤ i
         → word table i j ≡ interval_add (entry_by one.now.table layout.now.ones.items i j) (entry_by other.now.table layout.now.others.items i j)) }
 {
-    table_of_both(alloc, &one.table, &layout.ones, &other.table, &layout.others)
+    table_of_both(
+        alloc,
+        &one.table,
+        &layout.ones,
+        &other.table,
+        &layout.others,
+    )
 }
 
 /// The intervals of two right sides together.
@@ -151,11 +157,22 @@ fn right_over<const N: usize>(
     ensures sums { IfOk result (λ right. (i : ℕ) → i < length layout.now.names
         → slice_index_or right.items i zero_interval ≡ interval_add (right_by one.now.right.items layout.now.ones.items i) (right_by other.now.right.items layout.now.others.items i)) }
 {
-    rights_of_both(alloc, &one.right, &layout.ones, &other.right, &layout.others)
+    rights_of_both(
+        alloc,
+        &one.right,
+        &layout.ones,
+        &other.right,
+        &layout.others,
+    )
 }
 
 /// What the first of two parts has of each name.
-fn values_over<T: Copy>(alloc: Global, layout: &Layout, one: &[T], other: &[T]) -> Result<Vec<T>, AllocError>
+fn values_over<T: Copy>(
+    alloc: Global,
+    layout: &Layout,
+    one: &[T],
+    other: &[T],
+) -> Result<Vec<T>, AllocError>
     requires { (first : PlainNeq) × (second : PlainNeq) × AreLaid first second layout.now.names layout.now.ones.items layout.now.others.items
         × (length one.now ≡ length first.names) × (length other.now ≡ length second.names) }
     ensures len { IfOk result (λ values. length values.items ≡ length layout.now.names) }

@@ -22,7 +22,8 @@ rights_of_both-requires g c =
       one = within_by one names ones first (length c.deref.result.now) (ap length c.deref.ensures.value ∙ c.requires.one);
       other = within_by other names others second (length c.deref-3.result.now) (ap length c.deref-3.ensures.value ∙ c.requires.other);
       fit = (
-        fit.0, fit.1,
+        fit.0,
+        fit.1,
         λ i li. subst (λ (l : List Interval). size (right_by l ones i) ≤ fit.0) (sym c.deref.ensures.value) (right_small_by one names ones first fit.0 fit.2 i li),
         λ i li. subst (λ (l : List Interval). size (right_by l others i) ≤ fit.1) (sym c.deref-3.ensures.value) (right_small_by other names others second fit.1 fit.3 i (omega (arith, rows, columns))),
         fit.4,

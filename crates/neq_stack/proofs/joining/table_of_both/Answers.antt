@@ -6,8 +6,7 @@ use Rattle.neq_stack.proofs.joining.table_of_both.Goals as goal
 
 pub add_table-requires-2 : goal.add_table-requires-2
 add_table-requires-2 g c =
-    let size : c.add_table.new.into.size ≡ length c.args.ones.now = c.add_table.ensures.size ∙ c.in_ok-table.ensures.size in
-    (
+    let size : c.add_table.new.into.size ≡ length c.args.ones.now = c.add_table.ensures.size ∙ c.in_ok-table.ensures.size in (
       omega arith,
       (
         c.requires.lengths ∙ sym size,

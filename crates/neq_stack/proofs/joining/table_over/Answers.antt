@@ -13,8 +13,7 @@ table_of_both-requires g c =
     let first = c.deref.ensures.value ∙ c.requires.laid.first in
     let second = c.deref-2.ensures.value ∙ c.requires.laid.second in
     let rows = length_by one names ones first in
-    let fit = c.requires.fit in
-    (
+    let fit = c.requires.fit in (
       omega arith,
       (
         omega (arith, rows, c.requires.laid.few),
