@@ -1,0 +1,12 @@
+pub mod NameLaws
+pub mod AddLaws
+pub mod PlaceLaws
+pub mod SumLaws
+pub mod AnyLaws
+pub mod ParameterLaws
+pub mod PlacedLaws
+pub mod PairLaws
+pub mod RegroupLaws
+pub mod FewerLaws
+pub mod GrowLaws
+pub mod AtMostLaws

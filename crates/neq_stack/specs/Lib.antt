@@ -2,3 +2,4 @@ pub mod Neqs
 pub mod ByName
 pub mod Stacks
 pub mod Systems
+pub mod Joining
