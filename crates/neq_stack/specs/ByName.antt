@@ -1,5 +1,5 @@
 -- Normal equations read at names: what they have of a parameter, and their intervals.
-use Rattle.std.specs.Prelude.{◌≡◌, ◌≤◌, ℕ, ℤ, List, Option, Some, None, slice_get, slice_index_or}
+use Rattle.std.specs.Prelude.{◌≡◌, ◌≤◌, ℕ, ℤ, List, Option, Some, None, Contains, slice_get, slice_index_or}
 use Rattle.std.specs.List.{position_from}
 use Rattle.whole_numbers.specs.Intervals.{Interval, size}
 use Rattle.sym_blocks.specs.Tables.{SymTable, word, zero_interval}
@@ -26,6 +26,10 @@ pub record HasParameter (neq : PlainNeq) (id : PlainId) (parameter : Parameter) 
 -- a name that both have is one parameter
 abbrev pub Agree : PlainNeq → PlainNeq → Type 0
 Agree one other = (id : PlainId) (p q : Parameter) → HasParameter one id p → HasParameter other id q → p ≡ q
+
+-- every two of them agree
+abbrev pub AllAgree : List PlainNeq → Type 0
+AllAgree parts = (one other : PlainNeq) → Contains parts one → Contains parts other → Agree one other
 
 -- ---- intervals
 -- the place of a name, if it is there

@@ -1,5 +1,5 @@
 -- Normal equations by names: N (x - x0) = b over the names of some parameters (Brockmann 1997, section 2), in intervals.
-use Rattle.std.specs.Prelude.{◌≡◌, ◌≤◌, ◌<◌, ◌^◌, ℕ, ℤ, List, length, All, map}
+use Rattle.std.specs.Prelude.{◌≡◌, ◌^◌, ℕ, ℤ, List, length, All}
 use Rattle.whole_numbers.specs.Intervals.{Interval}
 use Rattle.sym_blocks.specs.Tables.{SymTable, before}
 use Rattle.decimal_e.specs.Decimals.{Decimal}

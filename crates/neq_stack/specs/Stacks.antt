@@ -1,5 +1,5 @@
 -- Stacks: normal equations summed by the names of their parameters (Brockmann 1997, section 2.3).
-use Rattle.std.specs.Prelude.{◌≡◌, ◌<◌, ◌≤◌, ◌↔◌, ◌∷◌, ℕ, List, [], length, map, take, flat_map, Result, Ok, Err, All, Contains}
+use Rattle.std.specs.Prelude.{◌≡◌, ◌<◌, ◌≤◌, ◌*◌, ◌↔◌, ◌⊎◌, ◌∷◌, ℕ, List, [], length, map, take, flat_map, Result, Ok, Err, All, Contains}
 use Rattle.std.specs.List.{Any}
 use Rattle.std.specs.List.Sorted.{IsPermutation}
 use Rattle.stated_order.specs.Lists.{AreEach}
@@ -9,7 +9,9 @@ use Rattle.sym_blocks.specs.Tables.{zero_interval}
 use Rattle.param_ids.specs.Plain.{PlainId}
 use Rattle.param_ids.specs.Order.{IsRising}
 use Rattle.neq_stack.specs.Neqs.{PlainNeq, IsSound}
-use Rattle.neq_stack.specs.ByName.{Parameter, HasParameter, entry_in, right_in}
+use Rattle.neq_stack.specs.ByName.{Parameter, HasParameter, AreAtMost, entry_in, right_in}
+use Rattle.neq_stack.specs.declared.stacking.StackError.{StackError}
+use Rattle.neq_stack.specs.declared.stacking.StackError.TheVariants as errors
 
 -- the sum of intervals
 abbrev pub sum_of_intervals : List Interval → Interval
@@ -44,6 +46,10 @@ abbrev pub IsStacked : List PlainNeq → Result PlainNeq ℕ → Type 0
 IsStacked parts (Ok neq) = IsStackOf parts neq
 IsStacked parts (Err count) = HaveTooMany parts count
 
+-- why parts are not stacked: memory is wanting, or they have too many names
+abbrev pub IsRefused : List PlainNeq → StackError → Type 0
+IsRefused parts cause = (cause ≡ errors.Memory) ⊎ ((count : ℕ) × (cause ≡ errors.TooMany count) × IsStacked parts (Err count))
+
 -- parts have one stack at most, or one number of names that is too many, and never both
 abbrev pub OneStack : Type 0
 OneStack = (parts : List PlainNeq) → IsOne (IsStacked parts)
@@ -61,3 +67,7 @@ StacksMove = (parts moved : List PlainNeq) (neq : PlainNeq) → IsPermutation pa
 abbrev pub SomeHaveStack : Type 0
 SomeHaveStack = (parts some : List PlainNeq) (neq : PlainNeq)
     → All IsSound parts → IsStackOf parts neq → All (Contains parts) some → (stack : PlainNeq) × IsStackOf some stack
+
+-- where no interval of a part passes most in size, none of the stack passes most times the number of parts
+abbrev pub StackIsAtMost : Type 0
+StackIsAtMost = (most : ℕ) (parts : List PlainNeq) (neq : PlainNeq) → All (AreAtMost most) parts → IsStackOf parts neq → AreAtMost (length parts * most) neq

@@ -1,11 +1,13 @@
 -- Systems of equations by the names of their unknowns, and the normal equations that hold them.
-use Rattle.std.specs.Prelude.{◌≡◌, ◌<◌, ◌*◌, ◌∷◌, ℕ, ℤ, pos, ◌+ℤ◌, ◌-ℤ◌, ◌*ℤ◌, List, [], map, All, slice_get, unwrap_or}
+use Rattle.std.specs.Prelude.{◌≡◌, ◌<◌, ◌*◌, ◌∷◌, ℕ, ℤ, pos, ◌+ℤ◌, ◌-ℤ◌, ◌*ℤ◌, List, [], length, map, All, slice_get, slice_index_or, unwrap_or}
 use Rattle.snx_epoch.specs.declared.Epoch.TheVariants.{Never}
 use Rattle.stated_order.specs.Lists.{AreEach}
-use Rattle.sys_model.specs.Scaling.{HoldsTimes}
-use Rattle.sys_model.specs.Systems.{System}
+use Rattle.sys_model.specs.Scaling.{HoldsTimes, LiesInStack}
+use Rattle.sys_model.specs.Systems.{System, Table}
+use Rattle.whole_numbers.specs.Lists.{at}
+use Rattle.sym_blocks.specs.Tables.{word, zero_interval}
 use Rattle.param_ids.specs.Plain.{PlainId}
-use Rattle.neq_stack.specs.Neqs.{PlainNeq}
+use Rattle.neq_stack.specs.Neqs.{PlainNeq, IsSound}
 use Rattle.neq_stack.specs.ByName.{entry_in, right_in}
 use Rattle.neq_stack.specs.Stacks.{IsStackOf}
 
@@ -56,3 +58,13 @@ pub record IsSumOf (parts : List NamedSystem) (S : NamedSystem) : Type 0 where
 abbrev pub StackHolds : Type 0
 StackHolds = (exponent : PlainId → ℤ) (parts : List PlainNeq) (systems : List NamedSystem) (neq : PlainNeq) (S : NamedSystem)
     → AreEach (LiesInNeq exponent) parts systems → IsStackOf parts neq → IsSumOf systems S → LiesInNeq exponent neq S
+
+-- ---- systems in order
+-- the intervals of normal equations, by the places of their names
+abbrev pub table_in : PlainNeq → Table
+table_in neq = record { entry = word neq.table; right = λ i. slice_index_or neq.right i zero_interval }
+
+-- a system that lies in normal equations by name lies in their intervals in order
+abbrev pub NeqLiesInStack : Type 0
+NeqLiesInStack = (exponent : PlainId → ℤ) (neq : PlainNeq) (S : NamedSystem)
+    → IsSound neq → neq.scales ≡ map exponent neq.names → LiesInNeq exponent neq S → LiesInStack (length neq.names) (table_in neq) (at neq.scales) (over neq.names S)

@@ -1,9 +1,12 @@
 //! Normal equations by the names of their parameters.
 #![tactic(auto)]
 
+mod stacking;
+
 use decimal_e::Dec;
 use interval_word::Iv;
 use param_ids::Names;
+pub use stacking::{StackError, stack, stack_all};
 use sym_blocks::SymBlock;
 
 /// Normal equations of some parameters, in intervals: the matrix and the right side of `N (x - x0) = b`.
