@@ -1,5 +1,4 @@
+pub mod Below
+pub mod OneCombination
 pub mod RunLaws
-pub mod Sound
-pub mod Texts
 pub mod Verdicts
-pub mod Words
