@@ -14,7 +14,7 @@ use Rattle.neq_stack.specs.Neqs.{PlainNeq}
 use Rattle.recover_neq.specs.Blocks.{Blocks, value_of, unit_of}
 use Rattle.recover_neq.specs.Recovery.{AreNamesOf, IsNeqOf, AreModest, EntryIsModest, RightIsModest, IsFirstPast, IsPast, IsNeqStep, IsRecovered, right_of, scale_of}
 use Rattle.recover_neq.specs.declared.RecoverFault.TheVariants.{Range}
-use Rattle.recover_neq.proofs.MadeTables.{equal_symmetric}
+use Rattle.sym_blocks.proofs.EqualTables.{equal_symmetric}
 use Rattle.recover_neq.proofs.NameLaws.{ids_in}
 
 one_value : {X : Type 0} (x : X) → IsOne (λ r. r ≡ x)

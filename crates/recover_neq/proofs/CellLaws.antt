@@ -12,7 +12,7 @@ use Rattle.whole_numbers.proofs.ListLaws.{each_push}
 use Rattle.whole_numbers.specs.Scaling.{floor_scaled, ceil_scaled}
 use Rattle.decimal_e.specs.Decimals.{Decimal}
 use Rattle.decimal_e.specs.Scales.{decimal_interval}
-use Rattle.sym_blocks.specs.Tables.{SymTable, word, zero_interval, IsPair}
+use Rattle.sym_blocks.specs.Tables.{SymTable, entry_at, zero_interval, IsPair}
 use Rattle.snx_rows.specs.declared.rows.Row.{Row}
 use Rattle.snx_matrices.specs.declared.elements.Cell.{Cell}
 use Rattle.recover_neq.specs.Blocks.{zero_decimal, is_at, given_at}
@@ -72,15 +72,15 @@ module _ (cells : List Cell) (ranks : List ℕ) (exponents : List ℤ) where
   entry_by : ℕ → ℕ → Decimal → Interval
   entry_by i j d = decimal_interval d (pos 18 -ℤ at exponents i -ℤ at exponents j)
 
-  pub none_shown : (k : ℕ) (table : SymTable) → length cells ≤ k → ((i j : ℕ) → i < length exponents → j < length exponents → word table i j ≡ zero_interval) → ShowsEntries (drop k cells) ranks exponents table
+  pub none_shown : (k : ℕ) (table : SymTable) → length cells ≤ k → ((i j : ℕ) → i < length exponents → j < length exponents → entry_at table i j ≡ zero_interval) → ShowsEntries (drop k cells) ranks exponents table
   none_shown k table all zeros i j li lj =
       let none : ranked_entry (drop k cells) ranks exponents i j ≡ zero_interval =
       ap (λ cs. ranked_entry cs ranks exponents i j) (drop_all k cells all) ∙ interval_zero (pos 18 -ℤ at exponents i -ℤ at exponents j) in
-      stands_same (ranked_entry (drop k cells) ranks exponents i j) (word table i j) (zeros i j li lj ∙ sym none)
+      stands_same (ranked_entry (drop k cells) ranks exponents i j) (entry_at table i j) (zeros i j li lj ∙ sym none)
 
   pub one_shown : (k : ℕ) (cell : Cell) (row col : ℕ) (scale : ℤ) (w : Interval) (a b : SymTable) → 1 ≤ k → k ≤ length cells → cell ≡ get_or cells (k - 1) cell → row ≡ get_or ranks cell.row 0 → col ≡ get_or ranks cell.col 0 → scale ≡ pos 18 -ℤ at exponents row -ℤ at exponents col
       → StandsFor (decimal_interval cell.value scale) w → ShowsEntries (drop k cells) ranks exponents a
-      → ((i j : ℕ) → IsPair row col i j → word b i j ≡ w) → ((i j : ℕ) → i < length exponents → j < length exponents → ¬ (IsPair row col i j) → word b i j ≡ word a i j)
+      → ((i j : ℕ) → IsPair row col i j → entry_at b i j ≡ w) → ((i j : ℕ) → i < length exponents → j < length exponents → ¬ (IsPair row col i j) → entry_at b i j ≡ entry_at a i j)
       → ShowsEntries (drop (k - 1) cells) ranks exponents b
   one_shown k cell row col scale w a b some within is row_is col_is scale_is stands before here others i j li lj =
       let moved : Cell = ranked ranks cell in
@@ -92,12 +92,12 @@ module _ (cells : List Cell) (ranks : List ℕ) (exponents : List ℤ) where
             let pair : IsPair row col i j = subst (λ r. IsPair r col i j) (sym row_is) (subst (λ c. IsPair moved.row c i j) (sym col_is) h.1) in
             let value : ranked_entry (drop (k - 1) cells) ranks exponents i j ≡ decimal_interval cell.value scale =
             split ∙ ap (λ d. decimal_interval d (pos 18 -ℤ at exponents i -ℤ at exponents j)) (in_front moved rest i j h.0) ∙ ap (decimal_interval cell.value) (sym (scale_is ∙ same_power (at exponents) row col i j pair)) in
-            subst (λ v. StandsFor v (word b i j)) (sym value) (subst (StandsFor (decimal_interval cell.value scale)) (sym (here i j pair)) stands)
+            subst (λ v. StandsFor v (entry_at b i j)) (sym value) (subst (StandsFor (decimal_interval cell.value scale)) (sym (here i j pair)) stands)
         | inr h ↦
             let apart : IsPair row col i j → ⊥ = λ p. h.1 (subst (λ r. IsPair r moved.col i j) row_is (subst (λ c. IsPair row c i j) col_is p)) in
             let value : ranked_entry (drop (k - 1) cells) ranks exponents i j ≡ ranked_entry (drop k cells) ranks exponents i j =
             split ∙ ap (λ d. decimal_interval d (pos 18 -ℤ at exponents i -ℤ at exponents j)) (behind moved rest i j h.0) in
-            subst (λ v. StandsFor v (word b i j)) (sym value) (subst (StandsFor (ranked_entry (drop k cells) ranks exponents i j)) (sym (others i j li lj apart)) (before i j li lj))
+            subst (λ v. StandsFor v (entry_at b i j)) (sym value) (subst (StandsFor (ranked_entry (drop k cells) ranks exponents i j)) (sym (others i j li lj apart)) (before i j li lj))
       ]
 
 -- ---- one more interval of the right side

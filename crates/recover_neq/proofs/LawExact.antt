@@ -14,7 +14,7 @@ use Rattle.decimal_e.specs.Decimals.{Decimal}
 use Rattle.decimal_e.specs.Fractions.{numerator, denominator, Means}
 use Rattle.decimal_e.specs.Scales.{decimal_interval}
 use Rattle.decimal_e.proofs.Values.{holds_word, ten_below_some}
-use Rattle.sym_blocks.specs.Tables.{word, zero_interval}
+use Rattle.sym_blocks.specs.Tables.{entry_at, zero_interval}
 use Rattle.equil.specs.Tables.{table_of}
 use Rattle.sys_model.specs.Scaling.{TimesPower, HoldsTimes, LiesInStack}
 use Rattle.sys_model.specs.Systems.{System}
@@ -67,7 +67,7 @@ module _ (doc : PlainDoc) (blocks : Blocks) (scales : ScaleMap) (neq : PlainNeq)
     blocks_are : exact.blocks ≡ blocks
     blocks_are = same_blocks doc exact.blocks blocks exact.has given
 
-    entry_holds : (i j : ℕ) → i < length neq.names → j < length neq.names → HoldsTimes (word neq.table i j) (S.a i j) S.q (pos 18 -ℤ at neq.scales i -ℤ at neq.scales j)
+    entry_holds : (i j : ℕ) → i < length neq.names → j < length neq.names → HoldsTimes (entry_at neq.table i j) (S.a i j) S.q (pos 18 -ℤ at neq.scales i -ℤ at neq.scales j)
     entry_holds i j li lj =
         let d = some_name neq.names i li in
         let one = get_or neq.names i d in
@@ -76,7 +76,7 @@ module _ (doc : PlainDoc) (blocks : Blocks) (scales : ScaleMap) (neq : PlainNeq)
         let there = slice_get-get_or neq.names j d lj in
         let means : Means (matrix_of blocks one other) (S.a i j) S.q = subst (λ b. Means (matrix_of b one other) (S.a i j) S.q) blocks_are (exact.matrix i j one other here there) in
         let power = same_power (at neq.scales i) (at neq.scales j) (scale_of scales one) (scale_of scales other) (exponent_is scales neq.names neq.scales i one are.exponents here) (exponent_is scales neq.names neq.scales j other are.exponents there) in
-        subst (λ k. HoldsTimes (word neq.table i j) (S.a i j) S.q k) (sym power)
+        subst (λ k. HoldsTimes (entry_at neq.table i j) (S.a i j) S.q k) (sym power)
         (subst (λ w. HoldsTimes w (S.a i j) S.q (pos 18 -ℤ scale_of scales one -ℤ scale_of scales other)) (sym (are.entries i j one other here there))
         (means_holds (matrix_of blocks one other) (S.a i j) S.q (pos 18 -ℤ scale_of scales one -ℤ scale_of scales other) exact.some means))
 

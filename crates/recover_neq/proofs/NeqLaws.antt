@@ -11,8 +11,8 @@ use Rattle.stated_order.proofs.FirstLaws.{first_failure_moves, first_lower_failu
 use Rattle.whole_numbers.specs.Intervals.{Interval}
 use Rattle.whole_numbers.proofs.ListLaws.{equal_lists}
 use Rattle.decimal_e.specs.Scales.{decimal_interval}
-use Rattle.sym_blocks.specs.Tables.{word, before, zero_interval}
-use Rattle.sym_blocks.proofs.Rows.{word_sym}
+use Rattle.sym_blocks.specs.Tables.{entry_at, before, zero_interval}
+use Rattle.sym_blocks.proofs.Rows.{entry_sym}
 use Rattle.param_ids.specs.Plain.{PlainId}
 use Rattle.param_ids.specs.Tables.{ScaleMap}
 use Rattle.snx_matrices.specs.declared.elements.Cell.{Cell}
@@ -20,7 +20,7 @@ use Rattle.neq_stack.specs.Neqs.{PlainNeq}
 use Rattle.recover_neq.specs.Blocks.{Blocks, place_of, zero_decimal, is_at, given_at, matrix_of}
 use Rattle.recover_neq.specs.Recovery.{IsNeqOf, IsModest, EntryIsModest, RightIsModest, AreModest, IsFirstPast, IsPast, entry_of, right_of, scale_of}
 use Rattle.recover_neq.specs.Shown.{StandsFor, IsShown}
-use Rattle.recover_neq.proofs.MadeTables.{made_table, made_size, made_length, made_word}
+use Rattle.recover_neq.proofs.MadeTables.{made_table, made_size, made_length, made_entry}
 
 -- a name of a list that has one
 some_name : (names : List PlainId) (k : ℕ) → k < length names → PlainId
@@ -49,8 +49,8 @@ given_sym (cell ∷ cells) i j =
 power_sym : (s t : ℤ) → pos 18 -ℤ s -ℤ t ≡ pos 18 -ℤ t -ℤ s
 power_sym s t = omega (arith, ints)
 
-entry_sym : (blocks : Blocks) (scales : ScaleMap) (one other : PlainId) → entry_of blocks scales one other ≡ entry_of blocks scales other one
-entry_sym blocks scales one other =
+entry_of_sym : (blocks : Blocks) (scales : ScaleMap) (one other : PlainId) → entry_of blocks scales one other ≡ entry_of blocks scales other one
+entry_of_sym blocks scales one other =
     ap (λ d. decimal_interval d (pos 18 -ℤ scale_of scales one -ℤ scale_of scales other)) (given_sym blocks.cells (place_of blocks.vector one) (place_of blocks.vector other))
     ∙ ap (decimal_interval (matrix_of blocks other one)) (power_sym (scale_of scales one) (scale_of scales other))
 
@@ -58,17 +58,17 @@ module _ (blocks : Blocks) (scales : ScaleMap) (neq : PlainNeq) (shown : IsShown
   named : (d : PlainId) (i : ℕ) → i < length neq.names → slice_get neq.names i ≡ Some (get_or neq.names i d)
   named d i l = slice_get-get_or neq.names i d l
 
-  entry_stands : (d : PlainId) (i j : ℕ) → i < length neq.names → j < length neq.names → StandsFor (entry_of blocks scales (get_or neq.names i d) (get_or neq.names j d)) (word neq.table i j)
+  entry_stands : (d : PlainId) (i j : ℕ) → i < length neq.names → j < length neq.names → StandsFor (entry_of blocks scales (get_or neq.names i d) (get_or neq.names j d)) (entry_at neq.table i j)
   entry_stands d i j li lj = shown.entries i j (get_or neq.names i d) (get_or neq.names j d) (named d i li) (named d j lj)
 
   right_stands : (d : PlainId) (i : ℕ) → i < length neq.names → StandsFor (right_of blocks scales (get_or neq.names i d)) (get_or neq.right i zero_interval)
   right_stands d i l = shown.right i (get_or neq.names i d) (named d i l)
 
   -- ---- all are modest
-  each_modest : HoldsLower (length neq.names) (EntryIsModest neq) → (i j : ℕ) → i < length neq.names → j < length neq.names → IsModest (word neq.table i j)
+  each_modest : HoldsLower (length neq.names) (EntryIsModest neq) → (i j : ℕ) → i < length neq.names → j < length neq.names → IsModest (entry_at neq.table i j)
   each_modest modest i j li lj =
       elim (dec_lt i j) [
-        | yes above ↦ subst IsModest (word_sym neq.table j i) (modest j i lj (omega arith))
+        | yes above ↦ subst IsModest (entry_sym neq.table j i) (modest j i lj (omega arith))
         | no below ↦ modest i j li (omega arith)
       ]
 
@@ -91,25 +91,25 @@ module _ (blocks : Blocks) (scales : ScaleMap) (neq : PlainNeq) (shown : IsShown
 
   -- ---- the first that is not
   module _ (d : PlainId) where
-    entry_at : ℕ → ℕ → Interval
-    entry_at i j = entry_of blocks scales (get_or neq.names i d) (get_or neq.names j d)
+    true_interval : ℕ → ℕ → Interval
+    true_interval i j = entry_of blocks scales (get_or neq.names i d) (get_or neq.names j d)
 
     abbrev true_neq : PlainNeq
-    true_neq = record { names = neq.names; table = made_table entry_at (length neq.names); right = map (right_of blocks scales) neq.names; apriori = neq.apriori; units = neq.units; scales = neq.scales }
+    true_neq = record { names = neq.names; table = made_table true_interval (length neq.names); right = map (right_of blocks scales) neq.names; apriori = neq.apriori; units = neq.units; scales = neq.scales }
 
-    true_word : (i j : ℕ) → i < length neq.names → j < length neq.names → word true_neq.table i j ≡ entry_of blocks scales (get_or neq.names i d) (get_or neq.names j d)
-    unfolding entry_at
-    true_word i j li lj =
-        made_word entry_at (length neq.names) i j li lj
+    true_entry : (i j : ℕ) → i < length neq.names → j < length neq.names → entry_at true_neq.table i j ≡ entry_of blocks scales (get_or neq.names i d) (get_or neq.names j d)
+    unfolding true_interval
+    true_entry i j li lj =
+        made_entry true_interval (length neq.names) i j li lj
         ∙ elim (dec_lt i j) [
           | yes above ↦
               let great : max i j ≡ j = omega arith in
               let less : min i j ≡ i = omega arith in
-              ap (λ n. entry_at n (min i j)) great ∙ ap (entry_at j) less ∙ entry_sym blocks scales (get_or neq.names j d) (get_or neq.names i d)
+              ap (λ n. true_interval n (min i j)) great ∙ ap (true_interval j) less ∙ entry_of_sym blocks scales (get_or neq.names j d) (get_or neq.names i d)
           | no below ↦
               let great : max i j ≡ i = omega arith in
               let less : min i j ≡ j = omega arith in
-              ap (λ n. entry_at n (min i j)) great ∙ ap (entry_at i) less
+              ap (λ n. true_interval n (min i j)) great ∙ ap (true_interval i) less
         ]
 
     true_right : (i : ℕ) → i < length neq.names → get_or true_neq.right i zero_interval ≡ right_of blocks scales (get_or neq.names i d)
@@ -118,10 +118,10 @@ module _ (blocks : Blocks) (scales : ScaleMap) (neq : PlainNeq) (shown : IsShown
     true_is : IsNeqOf blocks scales true_neq
     true_is = record {
       names = shown.names;
-      rows = made_size entry_at (length neq.names);
-      lower = made_length entry_at (length neq.names) ∙ ap before (sym (made_size entry_at (length neq.names)));
+      rows = made_size true_interval (length neq.names);
+      lower = made_length true_interval (length neq.names) ∙ ap before (sym (made_size true_interval (length neq.names)));
       entries = λ i j one other here there.
-          true_word i j (slice_get_within neq.names i one here) (slice_get_within neq.names j other there)
+          true_entry i j (slice_get_within neq.names i one here) (slice_get_within neq.names j other there)
           ∙ ap (λ x. entry_of blocks scales x (get_or neq.names j d)) (get_or_from_slice_get neq.names i one d here)
           ∙ ap (entry_of blocks scales one) (get_or_from_slice_get neq.names j other d there);
       right = refl;
@@ -131,13 +131,13 @@ module _ (blocks : Blocks) (scales : ScaleMap) (neq : PlainNeq) (shown : IsShown
     }
 
     entry_to : (i j : ℕ) → i < length neq.names → j ≤ i → EntryIsModest neq i j → EntryIsModest true_neq i j
-    entry_to i j l h modest = let within : j < length neq.names = omega arith in let s = entry_stands d i j l within in subst IsModest (s.back modest ∙ sym (true_word i j l within)) modest
+    entry_to i j l h modest = let within : j < length neq.names = omega arith in let s = entry_stands d i j l within in subst IsModest (s.back modest ∙ sym (true_entry i j l within)) modest
 
     entry_from : (i j : ℕ) → i < length neq.names → j ≤ i → EntryIsModest true_neq i j → EntryIsModest neq i j
     entry_from i j l h modest =
         let within : j < length neq.names = omega arith in
         let s = entry_stands d i j l within in
-        let given : IsModest (entry_of blocks scales (get_or neq.names i d) (get_or neq.names j d)) = subst IsModest (true_word i j l within) modest in
+        let given : IsModest (entry_of blocks scales (get_or neq.names i d) (get_or neq.names j d)) = subst IsModest (true_entry i j l within) modest in
         subst IsModest (sym (s.here given)) given
 
     right_to : (i : ℕ) → i < length neq.names → RightIsModest neq i → RightIsModest true_neq i

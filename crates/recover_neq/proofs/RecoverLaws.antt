@@ -84,7 +84,7 @@ pub sound : (blocks : Blocks) (scales : ScaleMap) (neq : PlainNeq) → IsNeqOf b
 sound blocks scales neq are apriori scaled = record {
   names = are.names.1;
   rows = are.rows;
-  words = are.lower;
+  entries = are.lower;
   rights = ap length are.right ∙ length-map neq.names (right_of blocks scales);
   values = ap length are.apriori ∙ length-map neq.names (value_of blocks.apriori);
   named_units = ap length are.units ∙ length-map neq.names (unit_of blocks.apriori);

@@ -8,7 +8,7 @@ use Rattle.whole_numbers.specs.Intervals.{Interval}
 use Rattle.whole_numbers.specs.Lists.{at}
 use Rattle.decimal_e.specs.Decimals.{Decimal}
 use Rattle.decimal_e.specs.Scales.{decimal_interval}
-use Rattle.sym_blocks.specs.Tables.{SymTable, word, before, zero_interval}
+use Rattle.sym_blocks.specs.Tables.{SymTable, entry_at, before, zero_interval}
 use Rattle.param_ids.specs.Plain.{PlainId}
 use Rattle.param_ids.specs.Order.{IsNames}
 use Rattle.param_ids.specs.Tables.{ScaleMap}
@@ -48,7 +48,7 @@ module _ (blocks : Blocks) (scales : ScaleMap) (names : List PlainId) (ranks : L
       ∙ ap (λ t. decimal_interval (value_of blocks.vector id) (pos 18 -ℤ t)) (exponent_is scales names exponents i id scaled here)
 
   pub is_shown : (table : SymTable) (rows known : List (Option Row)) (right : List Interval) (values : List Decimal) (units : List (List ℕ)) → All (IsPlaced (length blocks.vector)) blocks.cells
-      → table.size ≡ length exponents → length table.words ≡ before table.size → ShowsEntries blocks.cells ranks exponents table
+      → table.size ≡ length exponents → length table.entries ≡ before table.size → ShowsEntries blocks.cells ranks exponents table
       → rows ≡ map (row_of blocks.vector) names → length right ≡ length rows → ((i : ℕ) → i < length rows → StandsFor (right_at rows exponents i) (get_or right i zero_interval))
       → known ≡ map (row_of blocks.apriori) names → values ≡ map value_or known → units ≡ map unit_or known
       → IsShown blocks scales (record { names = names; table = table; right = right; apriori = values; units = units; scales = exponents })
@@ -61,7 +61,7 @@ module _ (blocks : Blocks) (scales : ScaleMap) (names : List PlainId) (ranks : L
         lower = lower;
         rights = rights ∙ rows_len;
         entries = λ i j one other here there.
-            subst (λ v. StandsFor v (word table i j)) (entry_is blocks scales names ranks exponents p in_order.0 are scaled i j one other placed here there)
+            subst (λ v. StandsFor v (entry_at table i j)) (entry_is blocks scales names ranks exponents p in_order.0 are scaled i j one other placed here there)
             (entries i j (let w = slice_get_within names i one here in omega arith) (let w = slice_get_within names j other there in omega arith));
         right = λ i id here.
             subst (λ v. StandsFor v (get_or right i zero_interval)) (right_is rows i id rows_are here)

@@ -6,7 +6,7 @@ use Rattle.stated_order.specs.First.{HoldsBelow, HoldsLower, IsFirstFailure, IsF
 use Rattle.stated_order.specs.Steps.{IsOne, Then}
 use Rattle.whole_numbers.specs.Intervals.{Interval, size}
 use Rattle.decimal_e.specs.Scales.{decimal_interval}
-use Rattle.sym_blocks.specs.Tables.{word, before, zero_interval}
+use Rattle.sym_blocks.specs.Tables.{entry_at, before, zero_interval}
 use Rattle.param_ids.specs.Plain.{PlainId}
 use Rattle.param_ids.specs.Order.{IsNames}
 use Rattle.param_ids.specs.Tables.{ScaleMap, scale_in}
@@ -55,8 +55,8 @@ right_of blocks scales id = decimal_interval (vector_of blocks id) (pos 18 -ℤ 
 pub record IsNeqOf (blocks : Blocks) (scales : ScaleMap) (neq : PlainNeq) : Type 0 where
   pub names : AreNamesOf blocks neq.names
   pub rows : neq.table.size ≡ length neq.names
-  pub lower : length neq.table.words ≡ before neq.table.size
-  pub entries : (i j : ℕ) (one other : PlainId) → slice_get neq.names i ≡ Some one → slice_get neq.names j ≡ Some other → word neq.table i j ≡ entry_of blocks scales one other
+  pub lower : length neq.table.entries ≡ before neq.table.size
+  pub entries : (i j : ℕ) (one other : PlainId) → slice_get neq.names i ≡ Some one → slice_get neq.names j ≡ Some other → entry_at neq.table i j ≡ entry_of blocks scales one other
   pub right : neq.right ≡ map (right_of blocks scales) neq.names
   pub apriori : neq.apriori ≡ map (value_of blocks.apriori) neq.names
   pub units : neq.units ≡ map (unit_of blocks.apriori) neq.names
@@ -67,7 +67,7 @@ abbrev pub IsModest : Interval → Type 0
 IsModest v = size v ≤ 10 ^ 34
 
 abbrev pub EntryIsModest : PlainNeq → ℕ → ℕ → Type 0
-EntryIsModest neq i j = IsModest (word neq.table i j)
+EntryIsModest neq i j = IsModest (entry_at neq.table i j)
 
 abbrev pub RightIsModest : PlainNeq → ℕ → Type 0
 RightIsModest neq i = IsModest (slice_index_or neq.right i zero_interval)

@@ -4,7 +4,7 @@ use Rattle.std.specs.Net.Reader.{map_or}
 use Rattle.whole_numbers.specs.Intervals.{Interval}
 use Rattle.whole_numbers.specs.Lists.{at}
 use Rattle.decimal_e.specs.Scales.{decimal_interval}
-use Rattle.sym_blocks.specs.Tables.{SymTable, word, before, zero_interval}
+use Rattle.sym_blocks.specs.Tables.{SymTable, entry_at, before, zero_interval}
 use Rattle.param_ids.specs.Plain.{PlainId}
 use Rattle.param_ids.specs.Tables.{ScaleMap}
 use Rattle.snx_rows.specs.declared.rows.Row.{Row}
@@ -33,7 +33,7 @@ ranked_entry cells ranks exponents i j = decimal_interval (given_at (map (ranked
 
 -- the intervals of a table of n rows stand for those of the elements
 abbrev pub ShowsEntries : List Cell → List ℕ → List ℤ → SymTable → Type 0
-ShowsEntries cells ranks exponents table = (i j : ℕ) → i < length exponents → j < length exponents → StandsFor (ranked_entry cells ranks exponents i j) (word table i j)
+ShowsEntries cells ranks exponents table = (i j : ℕ) → i < length exponents → j < length exponents → StandsFor (ranked_entry cells ranks exponents i j) (entry_at table i j)
 
 -- the interval of the value of the row for the name at i, and zero where there is none
 abbrev pub right_at : List (Option Row) → List ℤ → ℕ → Interval
@@ -43,9 +43,9 @@ right_at rows exponents i = decimal_interval (map_or (slice_index_or rows i None
 pub record IsShown (blocks : Blocks) (scales : ScaleMap) (neq : PlainNeq) : Type 0 where
   pub names : AreNamesOf blocks neq.names
   pub rows : neq.table.size ≡ length neq.names
-  pub lower : length neq.table.words ≡ before neq.table.size
+  pub lower : length neq.table.entries ≡ before neq.table.size
   pub rights : length neq.right ≡ length neq.names
-  pub entries : (i j : ℕ) (one other : PlainId) → slice_get neq.names i ≡ Some one → slice_get neq.names j ≡ Some other → StandsFor (entry_of blocks scales one other) (word neq.table i j)
+  pub entries : (i j : ℕ) (one other : PlainId) → slice_get neq.names i ≡ Some one → slice_get neq.names j ≡ Some other → StandsFor (entry_of blocks scales one other) (entry_at neq.table i j)
   pub right : (i : ℕ) (id : PlainId) → slice_get neq.names i ≡ Some id → StandsFor (right_of blocks scales id) (slice_index_or neq.right i zero_interval)
   pub apriori : neq.apriori ≡ map (value_of blocks.apriori) neq.names
   pub units : neq.units ≡ map (unit_of blocks.apriori) neq.names

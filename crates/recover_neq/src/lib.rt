@@ -18,10 +18,10 @@ ghost use Rattle.recover_neq.specs.declared.RecoverError.TheVariants.{Memory, Fa
 ghost use Rattle.recover_neq.specs.declared.RecoverFault.TheVariants.{MissingBlock};
 
 mod columns;
+mod intervals;
 mod limits;
 mod making;
 mod naming;
-mod words;
 
 use crate::making::{modest, shown};
 use crate::naming::first_unmatched;

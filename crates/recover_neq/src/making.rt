@@ -13,9 +13,9 @@ ghost use Rattle.recover_neq.specs.declared.RecoverFault.TheVariants.{Range};
 
 use crate::RecoverFault;
 use crate::columns::{exponents_of, units_of, values_of};
+use crate::intervals::{rights_of, table_of};
 use crate::limits::{first_past, first_past_of};
 use crate::naming::{names_of, ranks_of, rows_by_name};
-use crate::words::{rights_of, table_of};
 use neq_stack::Neq;
 use param_ids::Scales;
 use snx_matrices::Cell;

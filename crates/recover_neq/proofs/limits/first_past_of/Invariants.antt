@@ -5,4 +5,4 @@ use Rattle.recover_neq.specs.Recovery.{IsModest}
 use Rattle.recover_neq.proofs.limits.first_past_of.Given as goal
 
 abbrev pub invariant-loop-place : goal.invariant-loop-place
-invariant-loop-place l = HoldsBelow l.place (λ i. IsModest (slice_index_or l.words i zero_interval))
+invariant-loop-place l = HoldsBelow l.place (λ i. IsModest (slice_index_or l.intervals i zero_interval))

@@ -4,7 +4,7 @@ use Rattle.decimal_e.specs.Scales.{decimal_interval}
 use Rattle.recover_neq.specs.Shown.{StandsFor}
 use Rattle.recover_neq.proofs.ColumnLaws.{small_kept}
 use Rattle.recover_neq.proofs.CellLaws.{right_more}
-use Rattle.recover_neq.proofs.words.rights_of.Goals as goal
+use Rattle.recover_neq.proofs.intervals.rights_of.Goals as goal
 
 pub loop-place-preserved : goal.loop-place-preserved
 loop-place-preserved c = record {

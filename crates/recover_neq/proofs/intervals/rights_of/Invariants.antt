@@ -1,7 +1,7 @@
 use Rattle.std.proofs.Common.{◌≡◌, ◌<◌, ℕ, length, slice_index_or}
 use Rattle.sym_blocks.specs.Tables.{zero_interval}
 use Rattle.recover_neq.specs.Shown.{StandsFor, right_at}
-use Rattle.recover_neq.proofs.words.rights_of.Given as goal
+use Rattle.recover_neq.proofs.intervals.rights_of.Given as goal
 
 abbrev pub invariant-loop-place : goal.invariant-loop-place
 invariant-loop-place l = record {

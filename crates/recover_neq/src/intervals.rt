@@ -26,7 +26,7 @@ fn shown_at(d: &Dec, k: i32) -> Iv
     ensures { StandsFor (decimal_interval d.now k) result }
 {
     match interval_at(d, k) {
-        Some(word) => word,
+        Some(interval) => interval,
         None => Iv::point(FAR),
     }
 }
@@ -84,7 +84,7 @@ pub fn table_of<const N: usize>(
     requires ranks { All (λ rank. rank < length exponents.now) ranks.now }
     requires cells { All (IsPlaced (length ranks.now)) cells.now }
     ensures size { IfOk result (λ table. table.size ≡ length exponents.now) }
-    ensures whole { IfOk result (λ table. length table.words ≡ before table.size) }
+    ensures whole { IfOk result (λ table. length table.entries ≡ before table.size) }
     ensures shown { IfOk result (ShowsEntries cells.now ranks.now exponents.now) }
 {
     let mut table = SymBlock::<N>::zero(alloc, exponents.len())?;
@@ -92,8 +92,8 @@ pub fn table_of<const N: usize>(
         let cell = cells[place];
         let row = rank_at(ranks, cell.row);
         let col = rank_at(ranks, cell.col);
-        let word = shown_at(&cell.value, pair_scale(exponents, row, col));
-        table.set(row, col, word);
+        let interval = shown_at(&cell.value, pair_scale(exponents, row, col));
+        table.set(row, col, interval);
     }
     Ok(table)
 }

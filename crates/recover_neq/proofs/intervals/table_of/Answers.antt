@@ -4,14 +4,14 @@ use Rattle.decimal_e.specs.Scales.{decimal_interval}
 use Rattle.recover_neq.specs.Shown.{StandsFor, ShowsEntries}
 use Rattle.recover_neq.proofs.ColumnLaws.{small_kept}
 use Rattle.recover_neq.proofs.CellLaws.{one_shown}
-use Rattle.recover_neq.proofs.words.table_of.Goals as goal
+use Rattle.recover_neq.proofs.intervals.table_of.Goals as goal
 
 pub loop-place-preserved : goal.loop-place-preserved
 loop-place-preserved g c = record {
   size = c.set.ensures.size ∙ c.loop-place.invariant.size;
   whole = c.set.ensures.whole;
-  shown = one_shown c.args.cells.now c.args.ranks.now c.args.exponents.now c.loop-place.place c.index-cells-place.result c.rank_at-row.result c.rank_at-col.result c.pair_scale.result c.shown_at-word.result c.loop-place.table c.set.new.self
-      (omega arith) c.loop-place.auto.place c.index-cells-place.is c.rank_at-row.ensures c.rank_at-col.ensures c.pair_scale.ensures.value (subst (λ k. StandsFor (decimal_interval c.index-cells-place.result.value k) c.shown_at-word.result) (small_kept c.pair_scale.result (omega (arith, ints)) (omega (arith, ints))) c.shown_at-word.ensures) c.loop-place.invariant.shown c.set.ensures.here
+  shown = one_shown c.args.cells.now c.args.ranks.now c.args.exponents.now c.loop-place.place c.index-cells-place.result c.rank_at-row.result c.rank_at-col.result c.pair_scale.result c.shown_at-interval.result c.loop-place.table c.set.new.self
+      (omega arith) c.loop-place.auto.place c.index-cells-place.is c.rank_at-row.ensures c.rank_at-col.ensures c.pair_scale.ensures.value (subst (λ k. StandsFor (decimal_interval c.index-cells-place.result.value k) c.shown_at-interval.result) (small_kept c.pair_scale.result (omega (arith, ints)) (omega (arith, ints))) c.shown_at-interval.ensures) c.loop-place.invariant.shown c.set.ensures.here
       (λ i j li lj. c.set.ensures.others i j (omega (arith, c.loop-place.invariant.size)) (omega (arith, c.loop-place.invariant.size)));
 }
 

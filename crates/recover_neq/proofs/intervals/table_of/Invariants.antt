@@ -1,11 +1,11 @@
 use Rattle.std.proofs.Common.{◌≡◌, length, drop}
 use Rattle.sym_blocks.specs.Tables.{before}
 use Rattle.recover_neq.specs.Shown.{ShowsEntries}
-use Rattle.recover_neq.proofs.words.table_of.Given as goal
+use Rattle.recover_neq.proofs.intervals.table_of.Given as goal
 
 abbrev pub invariant-loop-place : goal.invariant-loop-place
 invariant-loop-place g l = record {
   size : l.table.size ≡ length l.exponents;
-  whole : length l.table.words ≡ before l.table.size;
+  whole : length l.table.entries ≡ before l.table.size;
   shown : ShowsEntries (drop l.place l.cells) l.ranks l.exponents l.table;
 }
