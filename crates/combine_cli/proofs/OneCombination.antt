@@ -54,7 +54,7 @@ parts_are_one : (scales : ScaleMap) (inputs : List PlainInput) → IsOne (ArePar
 parts_are_one scales inputs = in_turn_is_one (IsPart scales) (part_is_one scales) [] inputs
 
 -- ---- groups
-group_total : IsTotalOrder group_cmp
+pub group_total : IsTotalOrder group_cmp
 group_total = then_total (on_total (λ (group : Group). group.name) nat_list_cmp_total) (on_total (λ (group : Group). place_of group.alone) nat_cmp_total)
 
 first_equal : (o p : Ordering) → ordering_then o p ≡ Equal → o ≡ Equal
@@ -73,7 +73,7 @@ same_place false false e = refl
 same_place true false e = absurd (cc)
 same_place false true e = absurd (cc)
 
-group_exact : (a b : Group) → group_cmp a b ≡ Equal → a ≡ b
+pub group_exact : (a b : Group) → group_cmp a b ≡ Equal → a ≡ b
 group_exact a b e =
     let name = exact_bytes a.name b.name (first_equal _ _ e) in
     let alone = same_place a.alone b.alone (exact_unsigned _ _ (second_equal _ _ e)) in

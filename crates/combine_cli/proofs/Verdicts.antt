@@ -1,13 +1,17 @@
 -- A run has one verdict, and what gives it.
-use Rattle.std.proofs.Common.{◌≡◌, ◌∙◌, ◌∷◌, ℕ, List, [], Option, Result, Ok, Err, refl, sym, subst}
+use Rattle.std.proofs.Common.{◌≡◌, ◌≢◌, ◌∙◌, ◌∷◌, ℕ, List, [], Option, None, Result, Ok, Err, codes, refl, sym, subst}
+use Rattle.std.proofs.lemmas.List.Sorted.{IsPermutation-refl}
 use Rattle.stated_order.specs.Steps.{IsOne, Then}
 use Rattle.stated_order.proofs.StepLaws.{then_is_one, then_gives, then_stops}
 use Rattle.desk_io.specs.Content.{File}
 use Rattle.desk_io.specs.Outputs.{NamedText}
 use Rattle.control_doc.specs.Plain.{PlainControl}
+use Rattle.control_doc.specs.Single.{alone_plan, alone_control}
 use Rattle.refusal_lines.specs.declared.refusal.Refusal.{Refusal}
 use Rattle.run_inputs.specs.Words.{PlainCommand, Solve, Combine, AreCommand, ReadsWords}
-use Rattle.run_inputs.specs.Inputs.{PlainInput, ReadsInputs}
+use Rattle.refusal_lines.specs.declared.refusal.Refusal.TheVariants.{Words, NoFile}
+use Rattle.run_inputs.specs.Files.{ReadsFile}
+use Rattle.run_inputs.specs.Inputs.{PlainInput, IsInput, ReadsInputs, limit_after}
 use Rattle.combine_cli.specs.Combination.{Texts, IsCombined}
 use Rattle.combine_cli.specs.Verdict.{Outcome, Combines, HasControl, IsVerdict, outputs_with}
 use Rattle.combine_cli.specs.Headline.{AreWritten, IsCertifiedRun}
@@ -77,3 +81,24 @@ planned_run words old new outputs p written = record {
   certified = p.are_texts.certified;
   written = subst (λ (os : List NamedText). AreWritten os new) p.outputs_are written;
 }
+
+-- ---- some words
+no_command : (command : PlainCommand) → ¬ (AreCommand [] command)
+no_command (Solve names) are = let e = are.words_are in cc
+no_command (Combine names) are = let e = are.words_are in cc
+
+pub no_words : (files : List ℕ → Option File) (outcome : Outcome) → IsVerdict [] files outcome → outcome ≡ Err Words
+no_words files outcome h = one_verdict [] files outcome (Err Words) h (by_words [] files Words (no_command, refl))
+
+-- `solve` of a file that isn't there
+module _ (files : List ℕ → Option File) (from to : List ℕ) (differ : from ≢ to) (none : files from ≡ None) where
+  first_input : IsInput files [] (alone_plan from) (Err (NoFile from))
+  first_input = then_stops (ReadsFile (limit_after []) from (files from)) _ (NoFile from) (subst (λ (file : Option File). ReadsFile (limit_after []) from file (Err (NoFile from))) (sym none) refl)
+
+  no_inputs : ReadsInputs (alone_control from).files files (Err (NoFile from))
+  no_inputs = (alone_plan from ∷ [], record { same = IsPermutation-refl (alone_plan from ∷ []); ascends = tt }, then_stops (IsInput files [] (alone_plan from)) _ (NoFile from) first_input)
+
+  pub no_file : IsVerdict (codes "solve" ∷ from ∷ to ∷ []) files (Err (NoFile from))
+  no_file =
+      by_texts (codes "solve" ∷ from ∷ to ∷ []) files (Solve (record { from = from; to = to })) (record { words_are = refl; differ = differ }) (alone_control from) refl (NoFile from)
+      (then_stops (ReadsInputs (alone_control from).files files) (IsCombined (alone_control from).scales) (NoFile from) no_inputs)

@@ -1,5 +1,5 @@
 // What a run is to do, decided before it writes or says anything.
-ghost use Rattle.std.specs.Prelude.{◌≡◌, IsTrue, IfErr, IfOk, Ok, Err, map, string_bytes};
+ghost use Rattle.std.specs.Prelude.{◌≡◌, ◌≤◌, IsTrue, IfErr, IfOk, Ok, Err, length, map, string_bytes};
 ghost use Rattle.desk_io.specs.Content.{KeepsAll};
 ghost use Rattle.desk_io.specs.Outputs.{named_text};
 ghost use Rattle.control_doc.specs.Views.{control_view};
@@ -18,6 +18,7 @@ use std::thread::Threads;
 // The control of a command.
 fn control_of<D: Desk>(alloc: Global, command: Command<'_>, desk: &mut D) -> Result<Control, Refusal>
     ensures control { IsTrue D.tells → IfOk result (λ control. HasControl (command_view command) (D.content desk.old).files (Ok (control_view control))) }
+    ensures few { IfOk result (λ control. length control.files.items ≤ 64) }
     ensures refused { IsTrue D.tells → IfErr result (IfTold (λ refusal. HasControl (command_view command) (D.content desk.old).files (Err refusal))) }
     ensures keeps { IsTrue D.tells → KeepsAll (D.content desk.old) (D.content desk.new) }
     ensures cause { HasStatusCause (D.faults desk.old) (D.faults desk.new) (status_in result) }
@@ -38,6 +39,7 @@ fn texts_of<R: Threads + Sync, D: Desk>(
     control: &Control,
     desk: &mut D,
 ) -> Result<Combined, Refusal>
+    requires { length control.now.files.items ≤ 64 }
     ensures texts { IsTrue D.tells → IfOk result (λ combined. IsTextsOf (control_view control.now) (D.content desk.old).files (texts_view combined)) }
     ensures refused { IsTrue D.tells → IfErr result (IfTold (λ refusal. Combines (control_view control.now) (D.content desk.old).files (Err refusal))) }
     ensures keeps { IsTrue D.tells → KeepsAll (D.content desk.old) (D.content desk.new) }
