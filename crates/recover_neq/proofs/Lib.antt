@@ -1,10 +1,2 @@
 pub mod Alone
-pub mod CellLaws
-pub mod ColumnLaws
-pub mod LawExact
-pub mod MadeTables
 pub mod NameLaws
-pub mod NeqLaws
-pub mod RankLaws
-pub mod RecoverLaws
-pub mod ShownLaws
