@@ -59,6 +59,15 @@ any_alike R P Q back (x ∷ xs) (y ∷ ys) each h =
       | inr later ↦ any_later P x xs (any_alike R P Q back xs ys each.1 later)
     ]
 
+pub any_onward : {A B : Type 0} (R : A → B → Type 0) (P : A → Type 0) (Q : B → Type 0) → ((x : A) (y : B) → R x y → P x → Q y) → (xs : List A) (ys : List B) → AreEach R xs ys → Any P xs → Any Q ys
+any_onward R P Q onward [] ys each h = absurd (any_none P h)
+any_onward R P Q onward (x ∷ xs) [] each h = absurd each
+any_onward R P Q onward (x ∷ xs) (y ∷ ys) each h =
+    elim (any_cases P x xs h) [
+      | inl p ↦ any_here Q y ys (onward x y each.0 p)
+      | inr later ↦ any_later Q y ys (any_onward R P Q onward xs ys each.1 later)
+    ]
+
 -- ---- steps
 -- a step that gave something went on
 pub went_on : {X Y C : Type 0} (first : Result X C → Type 0) (next : X → Result Y C → Type 0) (y : Y) → Then first next (Ok y) → GoesOn first next (Ok y)

@@ -8,7 +8,8 @@ use Rattle.std.specs.declared.cmp.Ordering.{Ordering}
 use Rattle.std.specs.declared.cmp.Ordering.TheVariants.{Less, Equal, Greater}
 use Rattle.std.proofs.lemmas.Slice.Eq.{bytes_eq-Decides}
 use Rattle.std.proofs.lemmas.Cmp.{tied_itself}
-use Rattle.std.proofs.lemmas.List.Elements.{recursion_from_All, All-contains_itself, All-weaker}
+use Rattle.std.specs.Ordering.{ordering_reverse}
+use Rattle.std.proofs.lemmas.List.Elements.{All-from_recursion, recursion_from_All, All-contains, All-contains_itself, All-weaker}
 use Rattle.std.proofs.lemmas.List.Sorted.{IsPermutation-refl, IsPermutation-trans, IsPermutation-sym, IsPermutation-map, IsPermutation-append_right, IsPermutation-filter_both}
 use Rattle.control_doc.specs.Plain.{PlainPlan}
 use Rattle.neq_stack.specs.Neqs.{PlainNeq}
@@ -137,6 +138,121 @@ groups_part parts groups are =
     (IsPermutation-map (λ (part : Part). part.neq) parts (of_groups parts groups) (parted groups parts are.rising (recursion_from_All (InSome groups) parts (all_grouped parts groups are))))
 
 -- ---- some files have groups
--- the groups in order, with one more
+-- a list has one more member
 abbrev HasAlso : Group → List Group → List Group → Type 0
 HasAlso group groups more = (other : Group) → Contains more other ↔ ((group ≡ other) ⊎ Contains groups other)
+
+contains_cases : (first : Group) (groups : List Group) (other : Group) → Contains (first ∷ groups) other → (first ≡ other) ⊎ Contains groups other
+contains_cases first groups other (zero, lt, e) = inl e
+contains_cases first groups other (suc k, lt, e) = inr (k, omega arith, e)
+
+contains_here : (first : Group) (groups : List Group) (other : Group) → first ≡ other → Contains (first ∷ groups) other
+contains_here first groups other e = (0, omega arith, e)
+
+contains_later : (first : Group) (groups : List Group) (other : Group) → Contains groups other → Contains (first ∷ groups) other
+contains_later first groups other (k, lt, e) = (suc k, omega arith, e)
+
+contains_none : (other : Group) → Contains [] other → ⊥
+contains_none other (k, lt, e) = absurd (omega arith)
+
+also_first : (group : Group) (groups : List Group) → HasAlso group groups (group ∷ groups)
+also_first group groups other = (
+  contains_cases group groups other,
+  λ either. elim either [ inl same ↦ contains_here group groups other same | inr later ↦ contains_later group groups other later ],
+)
+
+also_same : (group first : Group) (groups : List Group) → group ≡ first → HasAlso group (first ∷ groups) (first ∷ groups)
+also_same group first groups same other = (
+  λ there. inr there,
+  λ either. elim either [ inl e ↦ contains_here first groups other (sym same ∙ e) | inr there ↦ there ],
+)
+
+also_later : (group first : Group) (groups more : List Group) → HasAlso group groups more → HasAlso group (first ∷ groups) (first ∷ more)
+also_later group first groups more has other = (
+  λ there.
+    elim (contains_cases first more other there) [
+      | inl e ↦ inr (contains_here first groups other e)
+      | inr later ↦ elim ((has other).0 later) [ inl same ↦ inl same | inr old ↦ inr (contains_later first groups other old) ]
+    ],
+  λ either.
+    elim either [
+      | inl same ↦ contains_later first more other ((has other).1 (inl same))
+      | inr there ↦
+          elim (contains_cases first groups other there) [
+            | inl e ↦ contains_here first more other e
+            | inr old ↦ contains_later first more other ((has other).1 (inr old))
+          ]
+    ],
+)
+
+abbrev StandsBelow : Group → Group → Type 0
+StandsBelow group other = group_cmp group other ≡ Less
+
+below_all : (group first : Group) (groups : List Group) → StandsBelow group first → AllByRecursion (StandsBelow first) groups → AllByRecursion (StandsBelow group) groups
+below_all group first [] below all = tt
+below_all group first (other ∷ groups) below all = (group_total.trans group first other below all.0, below_all group first groups below all.1)
+
+below_more : (first group : Group) (groups more : List Group) → HasAlso group groups more → StandsBelow first group → AllByRecursion (StandsBelow first) groups → AllByRecursion (StandsBelow first) more
+below_more first group groups more has below all =
+    recursion_from_All (StandsBelow first) more
+    (All-weaker (Contains more) (StandsBelow first) (λ other there.
+    elim ((has other).0 there) [
+      | inl same ↦ subst (StandsBelow first) same below
+      | inr old ↦ All-contains (StandsBelow first) groups other (All-from_recursion (StandsBelow first) groups all) old
+    ]) more (All-contains_itself more))
+
+abbrev Inserted : Group → List Group → Type 0
+Inserted group groups = (more : List Group) × IsStrictlySortedBy group_cmp more × HasAlso group groups more
+
+one_alone : (group : Group) → Inserted group []
+unfolding IsStrictlySortedBy
+one_alone group = (group ∷ [], (tt, tt), also_first group [])
+
+put_first : (group first : Group) (groups : List Group) → StandsBelow group first → IsStrictlySortedBy group_cmp (first ∷ groups) → Inserted group (first ∷ groups)
+unfolding IsStrictlySortedBy
+put_first group first groups below rising = (group ∷ first ∷ groups, ((below, below_all group first groups below rising.0), rising), also_first group (first ∷ groups))
+
+put_later : (group first : Group) (groups : List Group) → StandsBelow first group → IsStrictlySortedBy group_cmp (first ∷ groups) → Inserted group groups → Inserted group (first ∷ groups)
+unfolding IsStrictlySortedBy
+put_later group first groups below rising rest =
+    (first ∷ rest.0, (below_more first group groups rest.0 rest.2 below rising.0, rest.1), also_later group first groups rest.0 rest.2)
+
+rising_rest : (first : Group) (groups : List Group) → IsStrictlySortedBy group_cmp (first ∷ groups) → IsStrictlySortedBy group_cmp groups
+unfolding IsStrictlySortedBy
+rising_rest first groups rising = rising.1
+
+inserted : (group : Group) (groups : List Group) → IsStrictlySortedBy group_cmp groups → Inserted group groups
+inserted group [] rising = one_alone group
+inserted group (first ∷ groups) rising = by_order (group_cmp group first) refl
+  where
+    by_order : (order : Ordering) → group_cmp group first ≡ order → Inserted group (first ∷ groups)
+    by_order Less e = put_first group first groups e rising
+    by_order Equal e = (first ∷ groups, rising, also_same group first groups (group_exact group first e))
+    by_order Greater e = put_later group first groups (group_total.antisymm first group ∙ ap ordering_reverse e) rising (inserted group groups (rising_rest first groups rising))
+
+no_groups : AreGroups [] []
+unfolding IsStrictlySortedBy
+no_groups = record { rising = tt; same = λ group. (λ there. absurd (contains_none group there), λ some. absurd (any_none (λ plan. group_of plan ≡ group) some)) }
+
+pub groups_exist : (plans : List PlainPlan) → (groups : List Group) × AreGroups plans groups
+groups_exist [] = ([], no_groups)
+groups_exist (plan ∷ plans) =
+    let rest = groups_exist plans in
+    let more = inserted (group_of plan) rest.0 rest.1.rising in (
+      more.0,
+      record {
+        rising = more.1;
+        same = λ group. (
+          λ there.
+            elim ((more.2 group).0 there) [
+              | inl same ↦ any_here (λ plan. group_of plan ≡ group) plan plans same
+              | inr old ↦ any_later (λ plan. group_of plan ≡ group) plan plans ((rest.1.same group).0 old)
+            ],
+          λ some.
+            elim (any_cases (λ plan. group_of plan ≡ group) plan plans some) [
+              | inl same ↦ (more.2 group).1 (inl same)
+              | inr old ↦ (more.2 group).1 (inr ((rest.1.same group).1 old))
+            ],
+        );
+      },
+    )

@@ -1,6 +1,11 @@
+pub mod AlikeInputs
+pub mod AlikeLaws
 pub mod Below
 pub mod Decisions
+pub mod EachLaws
+pub mod GroupLaws
 pub mod OneCombination
 pub mod RunLaws
+pub mod UngroupLaws
 pub mod Verdicts
 pub mod WorkedLaws
