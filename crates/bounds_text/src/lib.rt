@@ -1,6 +1,6 @@
 //! The report of bounds, as text.
 #![tactic(auto)]
 
-mod report;
+mod lines;
 
-pub use report::report;
+pub use lines::report;

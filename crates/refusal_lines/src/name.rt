@@ -1,4 +1,4 @@
-// Names of files.
+//! Names of files.
 ghost use Rattle.std.specs.Prelude.{◌≡◌, ℕ, List, IfOk, string_bytes};
 
 use std::alloc::{AllocError, Global};

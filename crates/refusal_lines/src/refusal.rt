@@ -1,4 +1,4 @@
-// Refusals, with their statuses and lines.
+//! Refusals, with their statuses and lines.
 ghost use Rattle.std.specs.Prelude.{◌≡◌, ◌≢◌, ◌++◌, IfOk, codes};
 ghost use Rattle.std.specs.Fmt.{decimal};
 ghost use Rattle.param_ids.specs.Ids.{id_text};

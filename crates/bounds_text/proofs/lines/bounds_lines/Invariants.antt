@@ -1,6 +1,6 @@
 use Rattle.std.proofs.Common.{◌≡◌, ◌+◌, ◌++◌, flat_map, drop}
 use Rattle.bounds_text.specs.Report.{bounds_lines}
-use Rattle.bounds_text.proofs.report.bounds_lines.Given as goal
+use Rattle.bounds_text.proofs.lines.bounds_lines.Given as goal
 
 abbrev pub invariant-loop-k : goal.invariant-loop-k
 invariant-loop-k l =

@@ -1,5 +1,5 @@
 use Rattle.bounds_text.proofs.Texts.{one_more}
-use Rattle.bounds_text.proofs.report.bounds_lines.Goals as goal
+use Rattle.bounds_text.proofs.lines.bounds_lines.Goals as goal
 
 pub loop-k-preserved : goal.loop-k-preserved
 loop-k-preserved c =

@@ -1,4 +1,4 @@
-// The report of bounds, as text.
+//! The report of bounds, as text.
 ghost use Rattle.std.specs.Prelude.{◌≡◌, ◌++◌, ◌∷◌, ◌+◌, ◌<◌, ◌/◌, ◌%◌, ◌^◌, length, slice_get, Some, flat_map, IfOk, string_bytes, codes};
 ghost use Rattle.bounds_text.specs.Report.{units_text, bound_text, bounds_line, bounds_lines, certificate_line, numbers_report};
 ghost use Rattle.stack_rules.specs.Rules.{numbers_in};
@@ -111,8 +111,8 @@ fn framed(alloc: Global, certificate: &str, lines: &[u8]) -> Result<Vec<u8>, All
     Ok(text)
 }
 
-// The report of all rows.
-pub(crate) fn report(
+/// The report of all rows, in the order of their names: each index counts from 1, each unit has four bytes.
+pub fn report(
     alloc: Global,
     names: &Names,
     units: &[[u8; 4]],

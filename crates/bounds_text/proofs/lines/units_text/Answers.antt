@@ -1,7 +1,7 @@
 use Rattle.std.proofs.Common.{◌∷◌, ◌/◌, ◌%◌, ◌++◌, ◌^◌, ℕ, List, ap}
 use Rattle.std.specs.Fmt.{decimal}
 use Rattle.bounds_text.proofs.Texts.{sixteen, string_is}
-use Rattle.bounds_text.proofs.report.units_text.Goals as goal
+use Rattle.bounds_text.proofs.lines.units_text.Goals as goal
 
 pub returns : goal.returns
 returns c =

@@ -2,7 +2,7 @@ use Rattle.std.proofs.Common.{◌∙◌, ap, sym, flat_map, List}
 use Rattle.bounds_report.specs.declared.numbers.Printed.{Printed}
 use Rattle.bounds_text.specs.Report.{bounds_lines}
 use Rattle.bounds_text.proofs.Texts.{length-bounds_lines, report_is, vec_is}
-use Rattle.bounds_text.proofs.report.report.Goals as goal
+use Rattle.bounds_text.proofs.lines.report.Goals as goal
 
 pub returns : goal.returns
 returns c =
