@@ -6,6 +6,7 @@ pub mod EachLaws
 pub mod GroupLaws
 pub mod OneCombination
 pub mod RunLaws
+pub mod SoundParts
 pub mod UngroupLaws
 pub mod Verdicts
 pub mod WorkedLaws

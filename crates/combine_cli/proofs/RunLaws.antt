@@ -229,7 +229,7 @@ goes_on first next y (inl f) = f
 goes_on first next y (inr f) = let e = f.is_cause in absurd (cc)
 
 -- no listed file is also the control file or an output
-not_found : (found : Option PlainPlan) (kept : Unit {0}) → Ok kept ≡ apart_from found → found ≡ None
+pub not_found : (found : Option PlainPlan) (kept : Unit {0}) → Ok kept ≡ apart_from found → found ≡ None
 not_found None kept e = refl
 not_found (Some plan) kept e = absurd (cc)
 
