@@ -1,5 +1,6 @@
 -- The SINEX files of a run: read one after another in the order of their names, each to its end, and each as a document.
-use Rattle.std.specs.Prelude.{◌≡◌, ◌-◌, ℕ, min, List, [], length, map, sum, Option, Result, Ok, Err}
+use Rattle.std.specs.Prelude.{◌≡◌, ◌≢◌, ◌-◌, ℕ, min, List, [], length, map, sum, Option, Result, Ok, Err}
+use Rattle.std.specs.List.{AllPairs}
 use Rattle.std.specs.List.Sorted.{IsPermutation}
 use Rattle.std.specs.Ordering.{nat_cmp}
 use Rattle.std.specs.Cmp.Lexicographic.{slice_cmp}
@@ -22,6 +23,10 @@ pub record PlainInput : Type 0 where
 abbrev pub ComesBefore : PlainPlan → PlainPlan → Type 0
 ComesBefore one other = slice_cmp nat_cmp one.name other.name ≡ Less
 
+-- no two have one name
+abbrev pub AreApart : List PlainPlan → Type 0
+AreApart files = AllPairs (λ (one : PlainPlan) (other : PlainPlan). one.name ≢ other.name) files
+
 -- the same files in the order of their names
 pub record AreInNameOrder (files sorted : List PlainPlan) : Type 0 where
   pub same : IsPermutation files sorted
@@ -31,12 +36,16 @@ pub record AreInNameOrder (files sorted : List PlainPlan) : Type 0 where
 abbrev pub limit_after : List PlainInput → ℕ
 limit_after before = min file_limit (total_limit - sum (map (λ (input : PlainInput). input.size) before))
 
--- the next file, or why it can't be read
-abbrev pub IsInput : (List ℕ → Option File) → List PlainInput → PlainPlan → Result PlainInput Refusal → Type 0
-IsInput files before plan =
-    Then (ReadsFile (limit_after before) plan.name (files plan.name)) (λ text.
+-- a file of at most so many bytes, or why it can't be read
+abbrev pub IsInputWithin : ℕ → (List ℕ → Option File) → PlainPlan → Result PlainInput Refusal → Type 0
+IsInputWithin limit files plan =
+    Then (ReadsFile limit plan.name (files plan.name)) (λ text.
     Then (ReadsText plan.name text) (λ doc r.
     r ≡ Ok (record { plan = plan; size = length text; doc = doc })))
+
+-- the next file, or why it can't be read
+abbrev pub IsInput : (List ℕ → Option File) → List PlainInput → PlainPlan → Result PlainInput Refusal → Type 0
+IsInput files before = IsInputWithin (limit_after before) files
 
 -- all of them in turn, or the first refusal
 abbrev pub AreInputs : (List ℕ → Option File) → List PlainPlan → Result (List PlainInput) Refusal → Type 0

@@ -5,7 +5,7 @@ use Rattle.snx_blocks.specs.Views.{doc_view}
 use Rattle.control_doc.specs.Views.{plan_view}
 use Rattle.refusal_lines.specs.Refusals.{status_of}
 use Rattle.refusal_lines.specs.declared.refusal.Refusal.{Refusal}
-use Rattle.run_inputs.specs.Words.{PlainCommand, Solve, Combine, CombinedFiles}
+use Rattle.run_inputs.specs.Words.{PlainCommand, Solve, Combine, SolvedFiles, CombinedFiles}
 use Rattle.run_inputs.specs.Inputs.{PlainInput}
 use Rattle.run_inputs.specs.declared.words.SolveNames.{SolveNames}
 use Rattle.run_inputs.specs.declared.words.CombineNames.{CombineNames}
@@ -13,11 +13,14 @@ use Rattle.run_inputs.specs.declared.words.Command.{Command}
 use Rattle.run_inputs.specs.declared.words.Command.TheVariants as commands
 use Rattle.run_inputs.specs.declared.inputs.Input.{Input}
 
+abbrev pub solved_files : SolveNames → SolvedFiles
+solved_files names = record { from = names.from.now; to = names.to.now }
+
 abbrev pub combined_files : CombineNames → CombinedFiles
 combined_files names = record { control = names.control.now; out = names.out.now; report = names.report.now }
 
 abbrev pub command_view : Command → PlainCommand
-command_view (commands.Solve names) = Solve (record { from = names.from.now; to = names.to.now })
+command_view (commands.Solve names) = Solve (solved_files names)
 command_view (commands.Combine names) = Combine (combined_files names)
 
 abbrev pub input_view : Input → PlainInput
