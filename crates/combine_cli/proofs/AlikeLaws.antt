@@ -1,5 +1,7 @@
 -- Alike controls are admitted together, and give the same texts.
-use Rattle.std.proofs.Common.{◌≡◌, ◌≢◌, ◌∙◌, ◌++◌, ◌∷◌, ◌⊎◌, ◌||◌, ℕ, Bool, true, false, cond, List, [], length, map, length-map, get_or-map, append-nil, append_assoc, Option, Some, None, Result, Ok, Err, refl, ap, sym, subst, inl, inr}
+use Rattle.std.proofs.Common.{◌≡◌, ◌≢◌, ◌∙◌, ◌++◌, ◌∷◌, ◌⊎◌, ◌||◌, ℕ, Bool, true, false, cond, List, [], length, map, append-nil, append_assoc, Option, Some, None, Result, Ok, Err, refl, ap, sym, subst, inl, inr}
+use Rattle.std.proofs.Math.ListN.{get_or-map}
+use Rattle.std.proofs.lemmas.List.{length-map}
 use Rattle.std.specs.Prelude.{All, Contains, ◌↔◌}
 use Rattle.std.specs.List.{Any, AllByRecursion, filter, find, flat_map}
 use Rattle.std.specs.List.Sorted.{IsPermutation}
@@ -156,11 +158,11 @@ alike_combine files one other texts alike h =
 -- ---- admitted together
 unnamed : (test : PlainPlan → Bool) (plans : List PlainPlan) → find test plans ≡ None → AllByRecursion (λ plan. test plan ≡ false) plans
 unnamed test [] none = tt
-unnamed test (plan ∷ plans) none = by_test (test plan) refl none
+unnamed test (plan ∷ plans) none = by_test (test plan) refl none (unnamed test plans)
   where
-    by_test : (passes : Bool) → test plan ≡ passes → cond passes (Some plan) (find test plans) ≡ None → AllByRecursion (λ plan. test plan ≡ false) (plan ∷ plans)
-    by_test true e none = absurd (cc)
-    by_test false e none = (e, unnamed test plans none)
+    by_test : (passes : Bool) → test plan ≡ passes → cond passes (Some plan) (find test plans) ≡ None → (find test plans ≡ None → AllByRecursion (λ plan. test plan ≡ false) plans) → AllByRecursion (λ plan. test plan ≡ false) (plan ∷ plans)
+    by_test true e none later = absurd (cc)
+    by_test false e none later = (e, later none)
 
 none_named : (test : PlainPlan → Bool) (plans : List PlainPlan) → AllByRecursion (λ plan. test plan ≡ false) plans → find test plans ≡ None
 none_named test [] all = refl

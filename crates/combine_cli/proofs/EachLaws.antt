@@ -1,8 +1,10 @@
 -- Lists that are related member by member, and steps over them.
-use Rattle.std.proofs.Common.{◌≡◌, ◌++◌, ◌∷◌, ◌⊎◌, ◌<◌, ℕ, zero, suc, List, [], length, get_or, map, Result, Ok, Err, refl, sym, ap, subst, inl, inr, arith}
+use Rattle.std.proofs.Common.{◌≡◌, ◌++◌, ◌∷◌, ◌⊎◌, ◌<◌, ℕ, zero, suc, List, [], length, get_or, map, Result, Ok, Err, refl, sym, ◌∙◌, ap, subst, inl, inr, arith}
 use Rattle.std.specs.List.{Any}
 use Rattle.std.specs.List.Sorted.{IsPermutation}
-use Rattle.std.specs.Prelude.{swap}
+use Rattle.std.specs.List.{swap}
+use Rattle.std.proofs.Math.ListN.{set, get_or-map}
+use Rattle.std.proofs.lemmas.List.{length-map, map-set}
 use Rattle.std.proofs.lemmas.List.Sorted.{IsPermutation-refl, IsPermutation-trans, IsPermutation-swap, IsPermutation-keeps}
 use Rattle.stated_order.specs.Lists.{AreEach}
 use Rattle.stated_order.specs.Steps.{GoesOn, Then, InTurn}
@@ -92,6 +94,22 @@ module _ {A B A' B' C : Type 0} (step : List B → A → Result B C → Type 0) 
       (rest.0, then_gives (step' before' a') (λ b. InTurn step' (before' ++ b ∷ []) list') next.0 (Ok rest.0) next.1 rest.1, rest.2)
 
 -- ---- lists in another order
+mapped_swap : {A B : Type 0} (f : A → B) (xs : List A) (i j : ℕ) → map f (swap xs i j) ≡ swap (map f xs) i j
+mapped_swap f [] i j = refl
+mapped_swap f (d ∷ rest) i j =
+    let xs = d ∷ rest in
+    map-set f (set xs i (get_or xs j d)) j (get_or xs i d)
+    ∙ (λ t. set ((map-set f xs i (get_or xs j d) ∙ ap (set (map f xs) i) (sym (get_or-map f xs j d))) t) j (sym (get_or-map f xs i d) t))
+
+abbrev Lifted : {A B : Type 0} → (A → B) → List A → List B → Type 0
+Lifted {A = A} f xs ys = (zs : List A) × IsPermutation xs zs × (map f zs ≡ ys)
+
+swap_lifted : {A B : Type 0} (f : A → B) (xs : List A) (ys : List B) (i j : ℕ) → i < length ys → j < length ys → Lifted f xs ys → Lifted f xs (swap ys i j)
+swap_lifted f xs ys i j li lj h =
+    let long : length ys ≡ length h.0 = ap length (sym h.2) ∙ length-map h.0 f in
+    let moved = IsPermutation-swap h.0 (swap h.0 i j) i j (omega arith) (omega arith) refl in
+    (swap h.0 i j, IsPermutation-trans xs h.0 (swap h.0 i j) h.1 moved, mapped_swap f h.0 i j ∙ ap (λ l. swap l i j) h.2)
+
 -- where what a function makes of a list is put in another order, so can the list itself be
-pub lifted : {A B : Type 0} (f : A → B) (xs : List A) (ys : List B) → IsPermutation (map f xs) ys → (zs : List A) × IsPermutation xs zs × (map f zs ≡ ys)
-lifted f xs ys p = IsPermutation-keeps (map f xs) (λ l. (zs : List _) × IsPermutation xs zs × (map f zs ≡ l)) (xs, IsPermutation-refl xs, refl) (λ l i j li lj h. ?) ys p
+pub lifted : {A B : Type 0} (f : A → B) (xs : List A) (ys : List B) → IsPermutation (map f xs) ys → Lifted f xs ys
+lifted f xs ys p = IsPermutation-keeps (map f xs) (Lifted f xs) (xs, IsPermutation-refl xs, refl) (swap_lifted f xs) ys p

@@ -1,5 +1,6 @@
 -- The groups of some files part them: each file is in one group.
-use Rattle.std.proofs.Common.{◌≡◌, ◌≢◌, ◌∙◌, ◌++◌, ◌∷◌, ◌⊎◌, ◌&&◌, ◌==◌, ◌<◌, ℕ, zero, suc, List, [], length, get_or, map, map-append, Bool, true, false, not, cond, refl, ap, sym, subst, inl, inr, arith}
+use Rattle.std.proofs.Common.{◌≡◌, ◌≢◌, ◌∙◌, ◌++◌, ◌∷◌, ◌⊎◌, ◌&&◌, ◌==◌, ◌<◌, ℕ, zero, suc, List, [], length, get_or, map, Bool, true, false, not, cond, refl, ap, sym, subst, inl, inr, arith}
+use Rattle.std.proofs.lemmas.List.{map-append}
 use Rattle.std.specs.Prelude.{Contains, All, ◌↔◌}
 use Rattle.std.specs.List.{Any, filter, flat_map, AllByRecursion}
 use Rattle.std.specs.List.Sorted.{IsPermutation, IsStrictlySortedBy}
@@ -58,14 +59,15 @@ of_groups parts groups = flat_map (λ group. filter (is_in_group group) parts) g
 -- a part of another group is not among those of this one
 other_members : (group other : Group) (parts : List Part) → other ≢ group → filter (is_in_group other) (filter (λ part. not (is_in_group group part)) parts) ≡ filter (is_in_group other) parts
 other_members group other [] differs = refl
-other_members group other (part ∷ parts) differs = by_tests (is_in_group group part) (is_in_group other part) refl refl
+other_members group other (part ∷ parts) differs = by_tests (is_in_group group part) (is_in_group other part) refl refl (other_members group other parts differs)
   where
     by_tests : (this that : Bool) → is_in_group group part ≡ this → is_in_group other part ≡ that
+        → filter (is_in_group other) (filter (λ part. not (is_in_group group part)) parts) ≡ filter (is_in_group other) parts
         → filter (is_in_group other) (cond (not this) (part ∷ filter (λ part. not (is_in_group group part)) parts) (filter (λ part. not (is_in_group group part)) parts)) ≡ cond that (part ∷ filter (is_in_group other) parts) (filter (is_in_group other) parts)
-    by_tests true true a b = absurd (differs (sym (in_group other part b) ∙ in_group group part a))
-    by_tests true false a b = other_members group other parts differs
-    by_tests false true a b = rw b (ap (λ l. part ∷ l) (other_members group other parts differs))
-    by_tests false false a b = rw b (other_members group other parts differs)
+    by_tests true true a b rest = absurd (differs (sym (in_group other part b) ∙ in_group group part a))
+    by_tests true false a b rest = rest
+    by_tests false true a b rest = rw b (ap (λ l. part ∷ l) rest)
+    by_tests false false a b rest = rw b rest
 
 differs_above : (group other : Group) → group_cmp group other ≡ Less → other ≢ group
 differs_above group other below same =
@@ -92,12 +94,12 @@ still_in group groups part out some =
 others_in : (group : Group) (groups : List Group) (parts : List Part) → AllByRecursion (InSome (group ∷ groups)) parts
     → AllByRecursion (InSome groups) (filter (λ part. not (is_in_group group part)) parts)
 others_in group groups [] all = tt
-others_in group groups (part ∷ parts) all = by_test (is_in_group group part) refl
+others_in group groups (part ∷ parts) all = by_test (is_in_group group part) refl (others_in group groups parts all.1)
   where
-    by_test : (test : Bool) → is_in_group group part ≡ test
+    by_test : (test : Bool) → is_in_group group part ≡ test → AllByRecursion (InSome groups) (filter (λ part. not (is_in_group group part)) parts)
         → AllByRecursion (InSome groups) (cond (not test) (part ∷ filter (λ part. not (is_in_group group part)) parts) (filter (λ part. not (is_in_group group part)) parts))
-    by_test true e = others_in group groups parts all.1
-    by_test false e = (still_in group groups part e all.0, others_in group groups parts all.1)
+    by_test true e rest = rest
+    by_test false e rest = (still_in group groups part e all.0, rest)
 
 parted : (groups : List Group) (parts : List Part) → IsStrictlySortedBy group_cmp groups → AllByRecursion (InSome groups) parts → IsPermutation parts (of_groups parts groups)
 unfolding IsStrictlySortedBy
@@ -223,12 +225,12 @@ rising_rest first groups rising = rising.1
 
 inserted : (group : Group) (groups : List Group) → IsStrictlySortedBy group_cmp groups → Inserted group groups
 inserted group [] rising = one_alone group
-inserted group (first ∷ groups) rising = by_order (group_cmp group first) refl
+inserted group (first ∷ groups) rising = by_order (group_cmp group first) refl (inserted group groups (rising_rest first groups rising))
   where
-    by_order : (order : Ordering) → group_cmp group first ≡ order → Inserted group (first ∷ groups)
-    by_order Less e = put_first group first groups e rising
-    by_order Equal e = (first ∷ groups, rising, also_same group first groups (group_exact group first e))
-    by_order Greater e = put_later group first groups (group_total.antisymm first group ∙ ap ordering_reverse e) rising (inserted group groups (rising_rest first groups rising))
+    by_order : (order : Ordering) → group_cmp group first ≡ order → Inserted group groups → Inserted group (first ∷ groups)
+    by_order Less e rest = put_first group first groups e rising
+    by_order Equal e rest = (first ∷ groups, rising, also_same group first groups (group_exact group first e))
+    by_order Greater e rest = put_later group first groups (group_total.antisymm first group ∙ ap ordering_reverse e) rising rest
 
 no_groups : AreGroups [] []
 unfolding IsStrictlySortedBy

@@ -244,12 +244,13 @@ control_apart names files control reads =
 
 none_found : (test : PlainPlan → Bool) (plans : List PlainPlan) (k : ℕ) (plan : PlainPlan) → find test plans ≡ None → k < length plans → get_or plans k plan ≡ plan → test plan ≡ false
 none_found test [] k plan none lt e = absurd (omega arith)
-none_found test (first ∷ rest) k plan none lt e = by_first (test first) refl none k lt e
+none_found test (first ∷ rest) k plan none lt e = by_first (test first) refl none k lt e (λ k none lt e. none_found test rest k plan none lt e)
   where
-    by_first : (passes : Bool) → test first ≡ passes → cond passes (Some first) (find test rest) ≡ None → (k : ℕ) → k < length (first ∷ rest) → get_or (first ∷ rest) k plan ≡ plan → test plan ≡ false
-    by_first true is none k lt e = absurd (cc)
-    by_first false is none zero lt e = ap test (sym e) ∙ is
-    by_first false is none (suc k) lt e = none_found test rest k plan none (omega arith) e
+    by_first : (passes : Bool) → test first ≡ passes → cond passes (Some first) (find test rest) ≡ None → (k : ℕ) → k < length (first ∷ rest) → get_or (first ∷ rest) k plan ≡ plan
+        → ((k : ℕ) → find test rest ≡ None → k < length rest → get_or rest k plan ≡ plan → test plan ≡ false) → test plan ≡ false
+    by_first true is none k lt e later = absurd (cc)
+    by_first false is none zero lt e later = ap test (sym e) ∙ is
+    by_first false is none (suc k) lt e later = later k none (omega arith) e
 
 neither : (a b c : Bool) → (a || b || c) ≡ false → (b ≡ false) × (c ≡ false)
 neither true b c e = absurd (cc)

@@ -1,5 +1,6 @@
 -- A stack of all parts is the stack of the stacks of their groups.
-use Rattle.std.proofs.Common.{◌≡◌, ◌∙◌, ◌++◌, ◌∷◌, ◌⊎◌, ℕ, List, [], map, map-append, refl, ap, sym, subst, inl, inr}
+use Rattle.std.proofs.Common.{◌≡◌, ◌∙◌, ◌++◌, ◌∷◌, ◌⊎◌, ℕ, List, [], map, refl, ap, sym, subst, inl, inr}
+use Rattle.std.proofs.lemmas.List.{map-append}
 use Rattle.std.specs.Prelude.{Contains, ◌↔◌}
 use Rattle.std.specs.List.{Any, flat_map}
 use Rattle.stated_order.specs.Lists.{AreEach}

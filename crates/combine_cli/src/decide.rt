@@ -17,9 +17,9 @@ use std::thread::Threads;
 
 // The control of a command.
 fn control_of<D: Desk>(alloc: Global, command: Command<'_>, desk: &mut D) -> Result<Control, Refusal>
-    ensures control { IsTrue D.tells → IfOk result (λ control. HasControl (command_view command) (D.content desk.old).files (Ok (control_view control))) }
+    ensures control { IsTrue D.tells → IfOk result (λ control. HasControl (command_view command.entry) (D.content desk.old).files (Ok (control_view control))) }
     ensures few { IfOk result (λ control. length control.files.items ≤ 64) }
-    ensures refused { IsTrue D.tells → IfErr result (IfTold (λ refusal. HasControl (command_view command) (D.content desk.old).files (Err refusal))) }
+    ensures refused { IsTrue D.tells → IfErr result (IfTold (λ refusal. HasControl (command_view command.entry) (D.content desk.old).files (Err refusal))) }
     ensures keeps { IsTrue D.tells → KeepsAll (D.content desk.old) (D.content desk.new) }
     ensures cause { HasStatusCause (D.faults desk.old) (D.faults desk.new) (status_in result) }
 {
@@ -55,7 +55,7 @@ fn outputs_of<'a>(
     command: Command<'a>,
     texts: Combined,
 ) -> Result<Vec<Output<'a>>, AllocError>
-    ensures { IfOk result (λ outputs. map named_text outputs.items ≡ outputs_with (command_view command) (texts_view texts)) }
+    ensures { IfOk result (λ outputs. map named_text outputs.items ≡ outputs_with (command_view command.entry) (texts_view texts)) }
 {
     let mut outputs = Vec::new(alloc);
     match command {
@@ -66,14 +66,16 @@ fn outputs_of<'a>(
             })?;
         }
         Command::Combine(names) => {
-            outputs.push(Output {
+            let out = Output {
                 name: names.out,
                 text: texts.out,
-            })?;
-            outputs.push(Output {
+            };
+            let report = Output {
                 name: names.report,
                 text: texts.report,
-            })?;
+            };
+            outputs.push(out)?;
+            outputs.push(report)?;
         }
     }
     Ok(outputs)

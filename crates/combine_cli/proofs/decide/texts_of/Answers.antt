@@ -7,7 +7,7 @@ use Rattle.combine_cli.proofs.decide.texts_of.Goals as goal
 
 pub returns-in_err-inputs-clause-refused : goal.returns-in_err-inputs-clause-refused
 returns-in_err-inputs-clause-refused g c = λ tells.
-    let p = err_from_is_err_and c.from_residual-in_err-inputs.result c.from_residual-in_err-inputs.ensures.1 in
+    let p = err_from_is_err_and c.from_residual.result c.from_residual.ensures.1 in
     rw (p.1, p.2) (λ a b. inputs_refused (control_view c.args.control.now) _ _ (c.in_err-inputs.ensures.refused tells a b))
 
 pub returns-clause-texts : goal.returns-clause-texts
