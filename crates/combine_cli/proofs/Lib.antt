@@ -1,5 +1,12 @@
+pub mod AlikeInputs
+pub mod AlikeLaws
+pub mod Below
+pub mod Decisions
+pub mod EachLaws
+pub mod GroupLaws
+pub mod OneCombination
 pub mod RunLaws
-pub mod Sound
-pub mod Texts
+pub mod SoundParts
+pub mod UngroupLaws
 pub mod Verdicts
-pub mod Words
+pub mod WorkedLaws

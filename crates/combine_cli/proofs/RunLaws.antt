@@ -1,5 +1,9 @@
 -- What a run leaves, by how far it came.
-use Rattle.std.proofs.Common.{◌≡◌, ◌≢◌, ◌⊎◌, ◌++◌, ◌∷◌, ℕ, List, [], map, Option, Some, None, true, false, Result, Ok, Err, OnErr, IsErrOf, refl, sym, ◌∙◌, ap, subst, inl, inr, append-nil, append_assoc, arith}
+use Rattle.std.proofs.Common.{◌≡◌, ◌≢◌, ◌⊎◌, ◌++◌, ◌∷◌, ◌<◌, ◌||◌, ℕ, zero, suc, Bool, cond, List, [], length, get_or, map, Option, Some, None, true, false, Result, Ok, Err, OnErr, IsErrOf, refl, sym, ◌∙◌, ap, subst, inl, inr, append-nil, append_assoc, arith}
+use Rattle.std.specs.Prelude.{Contains, All}
+use Rattle.std.specs.List.{Any, find}
+use Rattle.std.specs.Str.{bytes_eq}
+use Rattle.std.proofs.lemmas.Slice.Eq.{bytes_eq-Decides}
 use Rattle.std.proofs.lemmas.List.Elements.{All-nil, All-cons, All-head, All-tail}
 use Rattle.desk_io.specs.Content.{File, Content, KeepsAll, IsFront}
 use Rattle.desk_io.specs.Desk.{Says}
@@ -8,13 +12,20 @@ use Rattle.desk_io.specs.declared.outputs.Output.{Output}
 use Rattle.desk_io.specs.Outputs.{NamedText, named_text, HoldsWhole, WritesOne, CutsOne, AllWritten, CutAmong, Writing, NamesNone, NamesDiffer, StandsWhole, StandsCut}
 use Rattle.desk_io.specs.declared.desk.DeskError.{DeskError}
 use Rattle.desk_io.specs.declared.desk.DeskError.TheVariants as desk
-use Rattle.combine_cli.specs.Refusals.{status_of, line_of}
-use Rattle.combine_cli.specs.Verdict.{FileNames, AreSolve, Outcome, IsVerdict, NamesOutput}
-use Rattle.combine_cli.specs.Headline.{IsCertifiedRun}
-use Rattle.combine_cli.specs.Runs.{HasVerdict, AfterReading, Leaves, SaysPart, StoppedAt, StoppedThen, SaysMemory, SaysFault, Excuses}
+use Rattle.stated_order.specs.Steps.{GoesOn, Then}
+use Rattle.control_doc.specs.Plain.{PlainPlan, PlainControl}
+use Rattle.control_doc.specs.Single.{alone_plan, alone_control}
+use Rattle.refusal_lines.specs.Refusals.{status_of, line_of}
+use Rattle.refusal_lines.specs.declared.refusal.Refusal.{Refusal}
+use Rattle.refusal_lines.specs.declared.refusal.Refusal.TheVariants.{Memory, Desk}
+use Rattle.run_inputs.specs.Words.{PlainCommand, Solve, Combine, CombinedFiles, AreCommand, NamesOutput, outputs_of}
+use Rattle.run_inputs.specs.Controls.{is_named, apart_from, apart, ReadsControl}
+use Rattle.combine_cli.specs.Combination.{Texts}
+use Rattle.combine_cli.specs.Verdict.{Outcome, IsVerdict, HasControl, outputs_with}
+use Rattle.combine_cli.specs.Headline.{AreWritten, IsCertifiedRun}
+use Rattle.combine_cli.specs.Runs.{HasVerdict, AfterReading, Leaves, SaysPart, StoppedAt, StoppedThen, SaysMemory, SaysFault, Excuses, named_input, ReadsName}
 use Rattle.combine_cli.specs.Plan.{IsPlanned}
-use Rattle.combine_cli.specs.declared.refusal.Refusal.{Refusal}
-use Rattle.combine_cli.specs.declared.refusal.Refusal.TheVariants.{Memory, Desk}
+use Rattle.combine_cli.proofs.Below.{words_are_one}
 use Rattle.combine_cli.proofs.Verdicts.{one_verdict, planned_verdict, planned_run}
 
 -- a fact is what an error needs
@@ -78,24 +89,32 @@ pub writes_outputs : (words : List (List ℕ)) (files : List ℕ → Option File
 writes_outputs words files status outputs old new v h =
     let leaves = subst (λ o. Leaves status o old new) (one_verdict words files h.outcome (Ok outputs) h.verdict v) h.holds in leaves.0
 
--- the names of one output differ
-pub differ_alone : (outputs : List NamedText) (output : NamedText) → outputs ≡ output ∷ [] → NamesDiffer outputs
-differ_alone outputs output e = subst NamesDiffer (sym e) (All-nil (λ (o : NamedText). output.name ≢ o.name), tt)
+-- whether an output has another name
+abbrev Differs : List ℕ → NamedText → Type 0
+Differs name output = name ≢ output.name
+
+-- the names of a command's outputs differ
+outputs_differ : (words : List (List ℕ)) (command : PlainCommand) (texts : Texts) → AreCommand words command → NamesDiffer (outputs_with command texts)
+outputs_differ words (Solve names) texts are = (All-nil (Differs names.to), tt)
+outputs_differ words (Combine names) texts are =
+    (All-cons (Differs names.out) (record { name = names.report; text = texts.report }) [] are.out_and_report (All-nil (Differs names.out)), (All-nil (Differs names.report), tt))
 
 pub planned_differ : (words : List (List ℕ)) (files : List ℕ → Option File) (outputs : List NamedText) → IsPlanned words files outputs → NamesDiffer outputs
-planned_differ words files outputs p = differ_alone outputs (record { name = p.names.to; text = p.report }) p.outputs_are
+planned_differ words files outputs p = subst NamesDiffer (sym p.outputs_are) (outputs_differ words p.command p.texts p.are)
 
 -- what is planned, of the slice that is written
 pub planned_slice : (words : List (List ℕ)) (files : List ℕ → Option File) (items slice : List Output) → slice ≡ items → IsPlanned words files (map named_text items)
     → IsPlanned words files (map named_text slice)
 planned_slice words files items slice e p = subst (λ (os : List Output). IsPlanned words files (map named_text os)) (sym e) p
 
+all_written : (outputs : List NamedText) (new : Content) → All (λ output. HoldsWhole output new) outputs → AreWritten outputs new.files
+all_written [] new whole = tt
+all_written (output ∷ later) new whole =
+    (All-head (λ (o : NamedText). HoldsWhole o new) output later whole, all_written later new (All-tail (λ (o : NamedText). HoldsWhole o new) output later whole))
+
 pub certified_writing : (words : List (List ℕ)) (outputs : List NamedText) (old mid new : Content) → IsPlanned words old.files outputs
     → StandsWhole outputs mid new → IsCertifiedRun words old.files new.files
-certified_writing words outputs old mid new p w =
-    let output : NamedText = record { name = p.names.to; text = p.report } in
-    let whole = subst (λ (os : List NamedText). StandsWhole os mid new) p.outputs_are w in
-    planned_run words old.files new.files outputs p (All-head (λ o. HoldsWhole o new) output [] whole.whole)
+certified_writing words outputs old mid new p w = planned_run words old.files new.files outputs p (all_written outputs new w.whole)
 
 -- ---- runs that were cut short
 
@@ -149,10 +168,6 @@ excuses_grow status old new (inr h) =
 
 -- ---- files that are no output
 
--- whether an output has another name
-abbrev Differs : List ℕ → NamedText → Type 0
-Differs name output = name ≢ output.name
-
 others_kept : (outputs : List NamedText) (old new : Content) (result : Result (Unit {0}) DeskError) (name : List ℕ) → NamesNone outputs name → Writing outputs old new result
     → new.files name ≡ old.files name
 others_kept [] old new (Ok u) name none w = ap (λ content. content.files name) w
@@ -171,12 +186,17 @@ said_kept (output ∷ later) old new (Err e) (inl one) = one.only.said
 said_kept (output ∷ later) old new (Err e) (inr w) = said_kept later w.0 new (Err e) w.2 ∙ w.1.only.said
 
 -- what is planned names outputs of the words alone
+command_names : (words : List (List ℕ)) (command : PlainCommand) (texts : Texts) (name : List ℕ) → AreCommand words command → ¬ (NamesOutput words name)
+    → NamesNone (outputs_with command texts) name
+command_names words (Solve names) texts name are none =
+    All-cons (Differs name) (record { name = names.to; text = texts.report }) [] (λ same. none (Solve names, are, (0, omega arith, sym same))) (All-nil (Differs name))
+command_names words (Combine names) texts name are none =
+    All-cons (Differs name) (record { name = names.out; text = texts.out }) (record { name = names.report; text = texts.report } ∷ []) (λ same. none (Combine names, are, (0, omega arith, sym same)))
+    (All-cons (Differs name) (record { name = names.report; text = texts.report }) [] (λ same. none (Combine names, are, (1, omega arith, sym same))) (All-nil (Differs name)))
+
 planned_names : (words : List (List ℕ)) (files : List ℕ → Option File) (outputs : List NamedText) (name : List ℕ) → IsPlanned words files outputs → ¬ (NamesOutput words name)
     → NamesNone outputs name
-planned_names words files outputs name p none =
-    let output : NamedText = record { name = p.names.to; text = p.report } in
-    let other : Differs name output = λ same. none (p.names, p.solve, same) in
-    subst (λ (os : List NamedText). NamesNone os name) (sym p.outputs_are) (All-cons (Differs name) output [] other (All-nil (Differs name)))
+planned_names words files outputs name p none = subst (λ (os : List NamedText). NamesNone os name) (sym p.outputs_are) (command_names words p.command p.texts name p.are none)
 
 pub untouched_by_writing : (words : List (List ℕ)) (outputs : List NamedText) (old mid new : Content) (result : Result (Unit {0}) DeskError) (name : List ℕ) → IsPlanned words old.files outputs → KeepsAll old mid
     → Writing outputs mid new result → ¬ (NamesOutput words name) → new.files name ≡ old.files name
@@ -190,13 +210,97 @@ pub said_by_saying : (bytes : List ℕ) (old mid new : Content) (result : Result
 said_by_saying bytes old mid new result keeps s =
     grown_twice old mid new (not_grown old mid keeps.said) (part_grows bytes mid new (said_part bytes mid new result s))
 
--- the file that is read is no output
-pub input_is_none : (words : List (List ℕ)) (names : FileNames) → AreSolve words names → ¬ (NamesOutput words names.from)
-input_is_none words names solve named =
-    let other = named.1 in
-    let e = sym solve.words_are ∙ other.words_are in
-    let to : names.to ≡ named.0.to = cc in
-    solve.differ (named.2 ∙ sym to)
+-- ---- files that are read
+
+same_command : (words : List (List ℕ)) (a b : PlainCommand) → AreCommand words a → AreCommand words b → a ≡ b
+same_command words a b h k = let e = words_are_one words (Ok a) (Ok b) h k in cc
+
+only_at : (x name : List ℕ) (k : ℕ) → k < length (x ∷ []) → get_or (x ∷ []) k name ≡ name → x ≡ name
+only_at x name zero lt e = e
+only_at x name (suc k) lt e = absurd (omega arith)
+
+either_at : (x y name : List ℕ) (k : ℕ) → k < length (x ∷ y ∷ []) → get_or (x ∷ y ∷ []) k name ≡ name → (x ≡ name) ⊎ (y ≡ name)
+either_at x y name zero lt e = inl e
+either_at x y name (suc zero) lt e = inr e
+either_at x y name (suc (suc k)) lt e = absurd (omega arith)
+
+goes_on : {X Y : Type 0} (first : Result X Refusal → Type 0) (next : X → Result Y Refusal → Type 0) (y : Y) → Then first next (Ok y) → GoesOn first next (Ok y)
+goes_on first next y (inl f) = f
+goes_on first next y (inr f) = let e = f.is_cause in absurd (cc)
+
+-- no listed file is also the control file or an output
+pub not_found : (found : Option PlainPlan) (kept : Unit {0}) → Ok kept ≡ apart_from found → found ≡ None
+not_found None kept e = refl
+not_found (Some plan) kept e = absurd (cc)
+
+control_apart : (names : CombinedFiles) (files : List ℕ → Option File) (control : PlainControl) → ReadsControl names files (Ok control) → find (is_named names) control.files ≡ None
+control_apart names files control reads =
+    let text = goes_on _ _ control reads in
+    let says = goes_on _ _ control text.onward in
+    let kept = goes_on _ _ control says.onward in
+    let all = goes_on _ _ control kept.onward in
+    let same : says.gives ≡ control = let e = all.onward in cc in
+    subst (λ (c : PlainControl). find (is_named names) c.files ≡ None) same (not_found (find (is_named names) says.gives.files) kept.gives kept.given)
+
+none_found : (test : PlainPlan → Bool) (plans : List PlainPlan) (k : ℕ) (plan : PlainPlan) → find test plans ≡ None → k < length plans → get_or plans k plan ≡ plan → test plan ≡ false
+none_found test [] k plan none lt e = absurd (omega arith)
+none_found test (first ∷ rest) k plan none lt e = by_first (test first) refl none k lt e (λ k none lt e. none_found test rest k plan none lt e)
+  where
+    by_first : (passes : Bool) → test first ≡ passes → cond passes (Some first) (find test rest) ≡ None → (k : ℕ) → k < length (first ∷ rest) → get_or (first ∷ rest) k plan ≡ plan
+        → ((k : ℕ) → find test rest ≡ None → k < length rest → get_or rest k plan ≡ plan → test plan ≡ false) → test plan ≡ false
+    by_first true is none k lt e later = absurd (cc)
+    by_first false is none zero lt e later = ap test (sym e) ∙ is
+    by_first false is none (suc k) lt e later = later k none (omega arith) e
+
+neither : (a b c : Bool) → (a || b || c) ≡ false → (b ≡ false) × (c ≡ false)
+neither true b c e = absurd (cc)
+neither false true c e = absurd (cc)
+neither false false c e = (refl, e)
+
+not_same : (one other : List ℕ) → bytes_eq one other ≡ false → one ≢ other
+not_same one other e same = let f : true ≡ false = sym ((bytes_eq-Decides one other).1 same) ∙ e in cc
+
+listed_apart : (names : CombinedFiles) (plan : PlainPlan) → is_named names plan ≡ false → (plan.name ≢ names.out) × (plan.name ≢ names.report)
+listed_apart names plan e =
+    let f = neither (bytes_eq plan.name names.control) (bytes_eq plan.name names.out) (bytes_eq plan.name names.report) e in
+    (not_same plan.name names.out f.0, not_same plan.name names.report f.1)
+
+abbrev Lists : PlainControl → List ℕ → Type 0
+Lists control name = Any (λ (plan : PlainPlan). plan.name ≡ name) control.files
+
+listed_alone : (from name : List ℕ) → Lists (alone_control from) name → from ≡ name
+listed_alone from name (k, plan, lt, e, is) = at_first k lt e
+  where
+    at_first : (k : ℕ) → k < length (alone_plan from ∷ []) → get_or (alone_plan from ∷ []) k plan ≡ plan → from ≡ name
+    at_first zero lt e = ap (λ (p : PlainPlan). p.name) e ∙ is
+    at_first (suc k) lt e = absurd (omega arith)
+
+not_output : (words : List (List ℕ)) (files : List ℕ → Option File) (command : PlainCommand) (name : List ℕ) → AreCommand words command
+    → (name ≡ named_input command) ⊎ ((control : PlainControl) × HasControl command files (Ok control) × Lists control name) → Contains (outputs_of command) name → ⊥
+not_output words files (Solve names) name are (inl same) output = are.differ (sym same ∙ sym (only_at names.to name output.0 output.1 output.2))
+not_output words files (Solve names) name are (inr listed) output =
+    let alone : listed.0 ≡ alone_control names.from = let e = listed.1 in cc in
+    let from = listed_alone names.from name (subst (λ control. Lists control name) alone listed.2) in
+    are.differ (from ∙ sym (only_at names.to name output.0 output.1 output.2))
+not_output words files (Combine names) name are (inl same) output =
+    elim (either_at names.out names.report name output.0 output.1 output.2) [
+      | inl out ↦ are.control_and_out (sym same ∙ sym out)
+      | inr report ↦ are.control_and_report (sym same ∙ sym report)
+    ]
+not_output words files (Combine names) name are (inr listed) output =
+    let plan = listed.2.1 in
+    let is : plan.name ≡ name = listed.2.4 in
+    let apart = listed_apart names plan (none_found (is_named names) listed.0.files listed.2.0 plan (control_apart names files listed.0 listed.1) listed.2.2 listed.2.3) in
+    elim (either_at names.out names.report name output.0 output.1 output.2) [
+      | inl out ↦ apart.0 (is ∙ sym out)
+      | inr report ↦ apart.1 (is ∙ sym report)
+    ]
+
+-- a file that is read is no output
+pub reads_is_none : (words : List (List ℕ)) (files : List ℕ → Option File) (name : List ℕ) → ReadsName words files name → ¬ (NamesOutput words name)
+reads_is_none words files name reads named =
+    let same = same_command words named.0 reads.command named.1 reads.are in
+    not_output words files reads.command name reads.are reads.reads (subst (λ command. Contains (outputs_of command) name) same named.2)
 
 -- ---- where a run stopped, by one output
 
@@ -249,4 +353,28 @@ stopped_others output old new name h differs =
     elim h.onward [
       | inl same ↦ ap (λ (content : Content). content.files name) same ∙ before
       | inr cut ↦ cut_others output h.read new name cut differs ∙ before
+    ]
+
+-- ---- where a run stopped, by two outputs
+
+first_of_two : (one two cut : NamedText) (earlier later : List NamedText) → one ∷ two ∷ [] ≡ earlier ++ cut ∷ later → (earlier ≡ []) × (later ≡ two ∷ []) ⊎ (head : List NamedText) × (earlier ≡ one ∷ head)
+first_of_two one two cut [] later e = inl (refl, cc)
+first_of_two one two cut (first ∷ rest) later e = inr (rest, cc)
+
+cut_second : (one two : NamedText) (old new : Content) (file : File) → StandsCut (one ∷ two ∷ []) old new → old.files two.name ≡ None → new.files two.name ≡ Some file → HoldsWhole one new
+cut_second one two old new file h none some =
+    elim (first_of_two one two h.cut h.earlier h.later h.in_order) [
+      | inl at ↦
+          let kept = subst (λ (os : List NamedText). All (λ (o : NamedText). new.files o.name ≡ old.files o.name) os) at.1 h.untouched in
+          absurd (stands_now two.name (new.files two.name) file (All-head (λ (o : NamedText). new.files o.name ≡ old.files o.name) two [] kept ∙ none) some)
+      | inr at ↦ All-head (λ (o : NamedText). HoldsWhole o new) one at.0 (subst (λ (os : List NamedText). All (λ (o : NamedText). HoldsWhole o new) os) at.1 h.whole)
+    ]
+
+pub stopped_second : (one two : NamedText) (old new : Content) (file : File) → StoppedAt (Ok (one ∷ two ∷ [])) old new → old.files two.name ≡ None → new.files two.name ≡ Some file
+    → HoldsWhole one new
+stopped_second one two old new file h none some =
+    let before : h.read.files two.name ≡ None = ap (λ f. f two.name) h.keeps.files ∙ none in
+    elim h.onward [
+      | inl same ↦ absurd (stands_now two.name (new.files two.name) file (ap (λ (content : Content). content.files two.name) same ∙ before) some)
+      | inr cut ↦ cut_second one two h.read new file cut before some
     ]

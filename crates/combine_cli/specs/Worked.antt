@@ -1,11 +1,15 @@
 -- Worked values, at which the laws of src/laws.rt tie the definitions.
-use Rattle.std.specs.Prelude.{◌∷◌, ℕ, ℤ, pos, negsuc, List, [], Some, None, codes}
+use Rattle.std.specs.Prelude.{◌∷◌, ℕ, ℤ, pos, negsuc, List, [], Some, None, codes, if◌then◌else◌}
 use Rattle.decimal_e.specs.Decimals.{Decimal}
 use Rattle.snx_epoch.specs.declared.Epoch.TheVariants.{Never}
 use Rattle.param_ids.specs.Plain.{PlainId}
+use Rattle.param_ids.specs.Order.{is_same_id}
 use Rattle.snx_rows.specs.declared.rows.Row.{Row}
 use Rattle.snx_matrices.specs.declared.elements.Content.TheVariants.{Info}
 use Rattle.snx_blocks.specs.Documents.{PlainDoc, empty_doc}
+use Rattle.control_doc.specs.Single.{alone_plan}
+use Rattle.neq_stack.specs.Systems.{NamedSystem}
+use Rattle.run_inputs.specs.Inputs.{PlainInput}
 use Rattle.bounds_report.specs.declared.numbers.Printed.{Printed}
 
 -- .1E+01, .4E+04 and .25
@@ -26,13 +30,35 @@ worked_name = record { kind = codes "STAX  "; code = codes "ABCD"; point = codes
 abbrev pub worked_row : Decimal → Row
 worked_row value = record { index = 1; id = worked_name; unit = codes "m   "; value = value; dev = None; line = 3 }
 
+-- .5, and a whole number
+abbrev pub half : Decimal
+half = record { mant = pos 5; exp = negsuc 0 }
+
+abbrev pub whole : ℕ → Decimal
+whole n = record { mant = pos n; exp = pos 0 }
+
+-- a normal equation N (x - .1E+01) = b
+abbrev pub equation : Decimal → Decimal → PlainDoc
+equation matrix vector = record empty_doc {
+  apriori = Some (worked_row one ∷ []);
+  vector = Some (worked_row vector ∷ []);
+  normal_matrix = Some (record { content = Info; cells = record { row = 0; col = 0; value = matrix } ∷ [] });
+}
+
 -- the normal equation .4E+04 (x - .1E+01) = .25
 abbrev pub worked_document : PlainDoc
-worked_document = record empty_doc {
-  apriori = Some (worked_row one ∷ []);
-  vector = Some (worked_row quarter ∷ []);
-  normal_matrix = Some (record { content = Info; cells = record { row = 0; col = 0; value = four_thousand } ∷ [] });
-}
+worked_document = equation four_thousand quarter
+
+-- the same as whole numbers over 4, by name
+abbrev pub at_worked : PlainId → ℤ → ℤ
+at_worked id value = if is_same_id worked_name id then value else pos 0
+
+abbrev pub worked_system : NamedSystem
+worked_system = record { q = 4; a = λ one other. at_worked one (at_worked other (pos 16000)); c = λ id. at_worked id (pos 1) }
+
+-- a file with the normal equation matrix (x - .1E+01) = vector
+abbrev pub worked_input : ℕ → ℕ → PlainInput
+worked_input matrix vector = record { plan = alone_plan (codes "in"); size = 0; doc = equation (whole matrix) (whole vector) }
 
 -- a printed row with these bounds, in units of 10^-16
 abbrev pub bounded_by : ℤ → ℤ → Printed

@@ -39,9 +39,9 @@ pub fn combine_core<R: Threads + Sync>(
 ) -> Result<Combined, Refusal>
     requires valid { All (λ input. IsValid (doc_view input.doc)) inputs.items }
     requires few { length inputs.items ≤ 64 }
-    ensures combined { IfOk result (λ combined. IsCombined control.now.scales (map input_view inputs.items) (Ok (texts_view combined))) }
-    ensures certified { IfOk result (λ combined. IsCertifiedReport control.now.scales (map input_view inputs.items) combined.report.items) }
-    ensures refused { IfErr result (IfTold (λ refusal. IsCombined control.now.scales (map input_view inputs.items) (Err refusal))) }
+    ensures combined { IfOk result (λ combined. IsCombined control.now.scales (map input_view inputs.entry.items) (Ok (texts_view combined))) }
+    ensures certified { IfOk result (λ combined. IsCertifiedReport control.now.scales (map input_view inputs.entry.items) combined.report.items) }
+    ensures refused { IfErr result (IfTold (λ refusal. IsCombined control.now.scales (map input_view inputs.entry.items) (Err refusal))) }
     ensures no_fault { IfErr result (λ refusal. status_of refusal ≢ 5) }
 {
     Err(Refusal::Memory)

@@ -1,5 +1,5 @@
 // What a run is to do, decided before it writes or says anything.
-ghost use Rattle.std.specs.Prelude.{◌≡◌, IsTrue, IfErr, IfOk, Ok, Err, map, string_bytes};
+ghost use Rattle.std.specs.Prelude.{◌≡◌, ◌≤◌, IsTrue, IfErr, IfOk, Ok, Err, length, map, string_bytes};
 ghost use Rattle.desk_io.specs.Content.{KeepsAll};
 ghost use Rattle.desk_io.specs.Outputs.{named_text};
 ghost use Rattle.control_doc.specs.Views.{control_view};
@@ -17,8 +17,9 @@ use std::thread::Threads;
 
 // The control of a command.
 fn control_of<D: Desk>(alloc: Global, command: Command<'_>, desk: &mut D) -> Result<Control, Refusal>
-    ensures control { IsTrue D.tells → IfOk result (λ control. HasControl (command_view command) (D.content desk.old).files (Ok (control_view control))) }
-    ensures refused { IsTrue D.tells → IfErr result (IfTold (λ refusal. HasControl (command_view command) (D.content desk.old).files (Err refusal))) }
+    ensures control { IsTrue D.tells → IfOk result (λ control. HasControl (command_view command.entry) (D.content desk.old).files (Ok (control_view control))) }
+    ensures few { IfOk result (λ control. length control.files.items ≤ 64) }
+    ensures refused { IsTrue D.tells → IfErr result (IfTold (λ refusal. HasControl (command_view command.entry) (D.content desk.old).files (Err refusal))) }
     ensures keeps { IsTrue D.tells → KeepsAll (D.content desk.old) (D.content desk.new) }
     ensures cause { HasStatusCause (D.faults desk.old) (D.faults desk.new) (status_in result) }
 {
@@ -38,6 +39,7 @@ fn texts_of<R: Threads + Sync, D: Desk>(
     control: &Control,
     desk: &mut D,
 ) -> Result<Combined, Refusal>
+    requires { length control.now.files.items ≤ 64 }
     ensures texts { IsTrue D.tells → IfOk result (λ combined. IsTextsOf (control_view control.now) (D.content desk.old).files (texts_view combined)) }
     ensures refused { IsTrue D.tells → IfErr result (IfTold (λ refusal. Combines (control_view control.now) (D.content desk.old).files (Err refusal))) }
     ensures keeps { IsTrue D.tells → KeepsAll (D.content desk.old) (D.content desk.new) }
@@ -53,7 +55,7 @@ fn outputs_of<'a>(
     command: Command<'a>,
     texts: Combined,
 ) -> Result<Vec<Output<'a>>, AllocError>
-    ensures { IfOk result (λ outputs. map named_text outputs.items ≡ outputs_with (command_view command) (texts_view texts)) }
+    ensures { IfOk result (λ outputs. map named_text outputs.items ≡ outputs_with (command_view command.entry) (texts_view texts)) }
 {
     let mut outputs = Vec::new(alloc);
     match command {
@@ -64,14 +66,16 @@ fn outputs_of<'a>(
             })?;
         }
         Command::Combine(names) => {
-            outputs.push(Output {
+            let out = Output {
                 name: names.out,
                 text: texts.out,
-            })?;
-            outputs.push(Output {
+            };
+            let report = Output {
                 name: names.report,
                 text: texts.report,
-            })?;
+            };
+            outputs.push(out)?;
+            outputs.push(report)?;
         }
     }
     Ok(outputs)

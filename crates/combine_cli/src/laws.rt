@@ -12,12 +12,18 @@ ghost use Rattle.snx_rows.specs.declared.causes.Cause.TheVariants as causes;
 ghost use Rattle.snx_blocks.specs.declared.sections.Section.TheVariants as sections;
 ghost use Rattle.recover_neq.specs.Exact.{IsExact};
 ghost use Rattle.recover_neq.specs.declared.RecoverFault.TheVariants as recovery;
-ghost use Rattle.combine_cli.specs.Refusals.{line_of, refusal_of_recovery};
+ghost use Rattle.neq_stack.specs.Systems.{NamedSystem};
+ghost use Rattle.control_doc.specs.declared.faults.ControlCause.TheVariants as controls;
+ghost use Rattle.control_doc.specs.declared.plans.Form.TheVariants as forms;
+ghost use Rattle.refusal_lines.specs.Refusals.{line_of};
+ghost use Rattle.refusal_lines.specs.declared.refusal.Scope.TheVariants as places;
+ghost use Rattle.refusal_lines.specs.declared.refusal.Refusal.TheVariants as refusals;
+ghost use Rattle.combine_cli.specs.Alike.{AlikeAreAdmitted, AlikeCombine};
+ghost use Rattle.combine_cli.specs.Causes.{refusal_of_recovery};
+ghost use Rattle.combine_cli.specs.Headline.{IsExactOf};
 ghost use Rattle.combine_cli.specs.Runs.{StoppedAt};
 ghost use Rattle.combine_cli.specs.Verdict.{Outcome, IsVerdict};
-ghost use Rattle.combine_cli.specs.Worked.{one, worked_name, worked_document, bounded_by};
-ghost use Rattle.combine_cli.specs.declared.refusal.Scope.TheVariants as places;
-ghost use Rattle.combine_cli.specs.declared.refusal.Refusal.TheVariants as refusals;
+ghost use Rattle.combine_cli.specs.Worked.{one, half, worked_name, worked_document, worked_system, worked_input, bounded_by};
 
 /// The bounds of a row are inequalities: 1 + 1/2 lies between 1.5 and 1.5, and neither above a lower bound that is greater by one
 /// unit nor below an upper bound that is less by one. Numbers that are certified keep them in each row, the first among them,
@@ -32,11 +38,21 @@ pub fn bounds_hold_their_solutions()
         → LiesInStack n t scale S → (v : Fractions) × Solves n S v }
 {}
 
-/// The exact systems of a document with the matrix .4E+04 and the right side .25, over its one name, are those of 4000 x = 1/4.
+/// The exact systems of a document with the matrix .4E+04 and the right side .25 are those of 4000 x = 1/4 at its one name, and
+/// zero at every other; with the weight .5 both sides are half as great.
 pub fn exact_systems_are_as_written()
-    ensures some { IsExact worked_document (worked_name ∷ []) (record { q = 4; a = λ _ _. pos 16000; c = λ _. pos 1 }) }
-    ensures matrix { (S : System) → IsExact worked_document (worked_name ∷ []) S → S.a 0 0 ≡ pos 4000 *ℤ pos S.q }
-    ensures vector { (S : System) → IsExact worked_document (worked_name ∷ []) S → S.c 0 *ℤ pos 4 ≡ pos S.q }
+    ensures some { IsExact worked_document one worked_system }
+    ensures matrix { (S : NamedSystem) → IsExact worked_document one S → S.a worked_name worked_name ≡ pos 4000 *ℤ pos S.q }
+    ensures vector { (S : NamedSystem) → IsExact worked_document one S → S.c worked_name *ℤ pos 4 ≡ pos S.q }
+    ensures weighted_matrix { (S : NamedSystem) → IsExact worked_document half S → S.a worked_name worked_name ≡ pos 2000 *ℤ pos S.q }
+    ensures weighted_vector { (S : NamedSystem) → IsExact worked_document half S → S.c worked_name *ℤ pos 8 ≡ pos S.q }
+{}
+
+/// The exact systems of two files with the matrices .4E+01 and .3E+01 and the right sides .2E+01 and .1E+01 over one name are those
+/// of 7 x = 3.
+pub fn files_are_added()
+    ensures matrix { (S : NamedSystem) → IsExactOf (worked_input 4 2 ∷ worked_input 3 1 ∷ []) S → S.a worked_name worked_name ≡ pos 7 *ℤ pos S.q }
+    ensures vector { (S : NamedSystem) → IsExactOf (worked_input 4 2 ∷ worked_input 3 1 ∷ []) S → S.c worked_name ≡ pos 3 *ℤ pos S.q }
 {}
 
 /// Where a run stopped, an output's file that was not there before holds a beginning of the output's text. Where the second of
@@ -46,20 +62,34 @@ pub fn stopped_outputs_are_fronts()
         → old.files output.name ≡ None → new.files output.name ≡ Some file → IsFront file.bytes output.text }
     ensures others { (output : NamedText) (old new : Content) (name : List ℕ) → StoppedAt (Ok (output ∷ [])) old new
         → name ≢ output.name → new.files name ≡ old.files name }
+    ensures first { (one two : NamedText) (old new : Content) (file : File) → StoppedAt (Ok (one ∷ two ∷ [])) old new
+        → old.files two.name ≡ None → new.files two.name ≡ Some file → HoldsWhole one new }
 {}
 
 /// The lines of refusals, and the outcome of some words, at worked values.
 pub fn refusals_are_told()
     ensures line { line_of (refusals.Line (codes "in") (record { line = 12; cause = causes.Size })) ≡ codes "snxcomb: in:12 Size\n" }
     ensures frame { line_of (refusals.Line (codes "in") (record { line = 10; cause = causes.Frame frames.NoEnd })) ≡ codes "snxcomb: in:10 NoEnd\n" }
-    ensures block { line_of (refusal_of_recovery (codes "in") (recovery.MissingBlock sections.Apriori)) ≡ codes "snxcomb: block file:in SOLUTION/APRIORI\n" }
-    ensures unbuilt { line_of (refusal_of_recovery (codes "in") (recovery.MissingBlock sections.NormalMatrix)) ≡ codes "snxcomb: unbuilt in\n" }
-    ensures unmatched { line_of (refusal_of_recovery (codes "in") (recovery.Unmatched worked_name)) ≡ codes "snxcomb: unmatched file:in STAX/ABCD/A/1/00:000:00000\n" }
-    ensures empty { line_of (refusal_of_recovery (codes "in") recovery.Empty) ≡ codes "snxcomb: empty file:in\n" }
+    ensures key { line_of (refusals.Control controls.Key (codes "output.agency")) ≡ codes "snxcomb: control key output.agency\n" }
+    ensures syntax { line_of (refusals.Control controls.Syntax []) ≡ codes "snxcomb: control syntax\n" }
+    ensures many { line_of (refusals.TooMany (places.Group (codes "north")) 1001) ≡ codes "snxcomb: too many group:north 1001\n" }
+    ensures block { line_of (refusal_of_recovery forms.Auto (codes "in") (recovery.MissingBlock sections.Apriori)) ≡ codes "snxcomb: block file:in SOLUTION/APRIORI\n" }
+    ensures needed { line_of (refusal_of_recovery forms.Neq (codes "in") (recovery.MissingBlock sections.NormalMatrix))
+        ≡ codes "snxcomb: block file:in SOLUTION/NORMAL_EQUATION_MATRIX\n" }
+    ensures unbuilt { line_of (refusal_of_recovery forms.Auto (codes "in") (recovery.MissingBlock sections.NormalMatrix)) ≡ codes "snxcomb: unbuilt in\n" }
+    ensures unmatched { line_of (refusal_of_recovery forms.Auto (codes "in") (recovery.Unmatched worked_name)) ≡ codes "snxcomb: unmatched file:in STAX/ABCD/A/1/00:000:00000\n" }
+    ensures empty { line_of (refusal_of_recovery forms.Auto (codes "in") recovery.Empty) ≡ codes "snxcomb: empty file:in\n" }
     ensures range { line_of (refusals.Range (places.File (codes "in")) worked_name worked_name)
         ≡ codes "snxcomb: range file:in STAX/ABCD/A/1/00:000:00000 STAX/ABCD/A/1/00:000:00000\n" }
     ensures pivot { line_of (refusals.Pivot places.Stack worked_name) ≡ codes "snxcomb: pivot stack STAX/ABCD/A/1/00:000:00000\n" }
     ensures no_words { (files : List ℕ → Option File) (outcome : Outcome) → IsVerdict [] files outcome → outcome ≡ Err refusals.Words }
     ensures no_file { (files : List ℕ → Option File) (from to : List ℕ) → from ≢ to → files from ≡ None
         → IsVerdict (codes "solve" ∷ from ∷ to ∷ []) files (Err (refusals.NoFile from)) }
+{}
+
+/// Two controls that differ in the order of their files, in the files' groups and in the number of workers: where the files of one
+/// are admitted so are those of the other, and where one gives texts the other gives the same.
+pub fn alike_controls()
+    ensures admitted { AlikeAreAdmitted }
+    ensures texts { AlikeCombine }
 {}

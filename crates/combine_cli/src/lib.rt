@@ -4,14 +4,12 @@
 mod combining;
 mod decide;
 mod laws;
-#[cfg(test)]
-mod tests;
 mod top;
 
 pub use combining::{Combined, combine_core};
 pub use laws::{
-    bounds_hold_their_solutions, exact_systems_are_as_written, refusals_are_told,
-    stopped_outputs_are_fronts,
+    alike_controls, bounds_hold_their_solutions, exact_systems_are_as_written, files_are_added,
+    refusals_are_told, stopped_outputs_are_fronts,
 };
 pub use refusal_lines::{Name, Refusal, Scope, line, status};
 pub use top::run;

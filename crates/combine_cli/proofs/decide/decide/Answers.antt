@@ -1,24 +1,26 @@
-use Rattle.std.proofs.Common.{ℕ, List, Err, map, string_bytes, refl, subst}
+use Rattle.std.proofs.Common.{map, string_bytes, refl}
 use Rattle.std.proofs.lemmas.Result.{err_from_is_err_and}
 use Rattle.desk_io.specs.Outputs.{named_text}
-use Rattle.combine_cli.specs.Headline.{IsCertifiedReport}
-use Rattle.combine_cli.specs.Plan.{names_in}
-use Rattle.combine_cli.proofs.Verdicts.{by_file, by_text, planned_of}
+use Rattle.control_doc.specs.Views.{control_view}
+use Rattle.run_inputs.specs.Views.{command_view}
+use Rattle.combine_cli.specs.Plan.{texts_view}
+use Rattle.combine_cli.proofs.Verdicts.{by_control}
+use Rattle.combine_cli.proofs.Decisions.{planned_of, combining_refused}
 use Rattle.combine_cli.proofs.decide.decide.Goals as goal
 
-pub returns-in_err-text-clause-refused : goal.returns-in_err-text-clause-refused
-returns-in_err-text-clause-refused g c = λ tells.
-    let p = err_from_is_err_and c.from_residual-in_err-text.result c.from_residual-in_err-text.ensures.1 in
+pub returns-in_err-control-clause-refused : goal.returns-in_err-control-clause-refused
+returns-in_err-control-clause-refused g c = λ tells.
+    let p = err_from_is_err_and c.from_residual-in_err-control.result c.from_residual-in_err-control.ensures.1 in
     rw (p.1, p.2) (λ a b.
-    by_file (map string_bytes c.args.words.now) (g.D.Desk.content c.args.desk.now).files (names_in c.in_ok-names.names) _ c.in_ok-names.ensures.names
-    (c.in_err-text.ensures.refused tells a b))
+    by_control (map string_bytes c.args.words.now) (g.D.Desk.content c.args.desk.now).files (command_view c.in_ok-command.command) c.in_ok-command.ensures.command _
+    (c.in_err-control.ensures.refused tells a b))
 
-pub returns-in_err-report-clause-refused : goal.returns-in_err-report-clause-refused
-returns-in_err-report-clause-refused g c = λ tells.
-    let p = err_from_is_err_and c.from_residual-in_err-report.result c.from_residual-in_err-report.ensures.1 in
+pub returns-in_err-texts-clause-refused : goal.returns-in_err-texts-clause-refused
+returns-in_err-texts-clause-refused g c = λ tells.
+    let p = err_from_is_err_and c.from_residual-in_err-texts.result c.from_residual-in_err-texts.ensures.1 in
     rw (p.1, p.2) (λ a b.
-    by_text (map string_bytes c.args.words.now) (g.D.Desk.content c.args.desk.now).files (names_in c.in_ok-names.names) c.in_ok-text.text.items _ c.in_ok-names.ensures.names
-    (c.in_ok-text.ensures.text tells) (rw c.deref.ensures.value at (c.in_err-report.ensures.refused a b)))
+    combining_refused (map string_bytes c.args.words.now) _ _ (command_view c.in_ok-command.command) (control_view c.in_ok-control.control) c.in_ok-command.ensures.command
+    (c.in_ok-control.ensures.control tells) (c.in_ok-control.ensures.keeps tells) _ (c.in_err-texts.ensures.refused tells a b))
 
 pub returns-in_err-outputs-clause-refused : goal.returns-in_err-outputs-clause-refused
 returns-in_err-outputs-clause-refused g c = λ tells.
@@ -27,6 +29,6 @@ returns-in_err-outputs-clause-refused g c = λ tells.
 
 pub returns-clause-planned : goal.returns-clause-planned
 returns-clause-planned g c = λ tells.
-    planned_of (map string_bytes c.args.words.now) (g.D.Desk.content c.args.desk.now).files (names_in c.in_ok-names.names) c.in_ok-text.text.items c.in_ok-report.report.items
-    (map named_text c.in_ok-outputs.outputs.items) c.in_ok-names.ensures.names
-    (subst (λ (t : List ℕ). IsCertifiedReport t c.in_ok-report.report.items) c.deref.ensures.value c.in_ok-report.ensures.report) c.in_ok-outputs.ensures (c.in_ok-text.ensures.text tells)
+    planned_of (map string_bytes c.args.words.now) _ _ (command_view c.in_ok-command.command) (control_view c.in_ok-control.control) c.in_ok-command.ensures.command
+    (c.in_ok-control.ensures.control tells) (c.in_ok-control.ensures.keeps tells) (texts_view c.in_ok-texts.texts) (map named_text c.in_ok-outputs.outputs.items)
+    (c.in_ok-texts.ensures.texts tells) c.in_ok-outputs.ensures

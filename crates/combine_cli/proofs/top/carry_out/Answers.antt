@@ -1,6 +1,6 @@
 use Rattle.std.proofs.Common.{◌≢◌, ℕ, map, string_bytes, arith}
 use Rattle.desk_io.specs.Outputs.{named_text}
-use Rattle.combine_cli.specs.Refusals.{status_of}
+use Rattle.refusal_lines.specs.Refusals.{status_of}
 use Rattle.combine_cli.proofs.RunLaws.{on_err, done_writing, done_saying, planned_slice, planned_differ, certified_writing, cut_before, cut_writing, cut_saying, untouched_by_writing, said_by_writing}
 use Rattle.combine_cli.proofs.top.carry_out.Goals as goal
 
@@ -53,3 +53,13 @@ returns-in_err-write_outputs-in-Ok-clause-said g c = λ tells.
 pub returns-in-Ok-clause-said : goal.returns-in-Ok-clause-said
 returns-in-Ok-clause-said g c = λ tells.
     said_by_writing (map named_text c.deref.result.now) _ _ _ c.write_outputs.result (c.in-Ok.ensures.keeps tells) (c.write_outputs.ensures.content tells)
+
+pub returns-in-Ok-clause-untouched : goal.returns-in-Ok-clause-untouched
+returns-in-Ok-clause-untouched g c = λ tells name none.
+    let p = planned_slice (map string_bytes c.args.words.now) (g.D.Desk.content c.args.desk.now).files c.in-Ok.outputs.items c.deref.result.now c.deref.ensures.value (c.in-Ok.ensures.planned tells) in
+    untouched_by_writing (map string_bytes c.args.words.now) (map named_text c.deref.result.now) _ _ _ c.write_outputs.result name p (c.in-Ok.ensures.keeps tells) (c.write_outputs.ensures.content tells) none
+
+pub returns-in-Ok-clause-certified : goal.returns-in-Ok-clause-certified
+returns-in-Ok-clause-certified g c = λ tells _.
+    let p = planned_slice (map string_bytes c.args.words.now) (g.D.Desk.content c.args.desk.now).files c.in-Ok.outputs.items c.deref.result.now c.deref.ensures.value (c.in-Ok.ensures.planned tells) in
+    certified_writing (map string_bytes c.args.words.now) (map named_text c.deref.result.now) (g.D.Desk.content c.args.desk.now) _ _ p (c.in_ok-write_outputs-in-Ok.ensures.stands tells (planned_differ _ _ _ p))

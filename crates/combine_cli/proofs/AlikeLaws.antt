@@ -1,0 +1,194 @@
+-- Alike controls are admitted together, and give the same texts.
+use Rattle.std.proofs.Common.{◌≡◌, ◌≢◌, ◌∙◌, ◌++◌, ◌∷◌, ◌⊎◌, ◌||◌, ℕ, Bool, true, false, cond, List, [], length, map, append-nil, append_assoc, Option, Some, None, Result, Ok, Err, refl, ap, sym, subst, inl, inr}
+use Rattle.std.proofs.Math.ListN.{get_or-map}
+use Rattle.std.proofs.lemmas.List.{length-map}
+use Rattle.std.specs.Prelude.{All, Contains, ◌↔◌}
+use Rattle.std.specs.List.{Any, AllByRecursion, filter, find, flat_map}
+use Rattle.std.specs.List.Sorted.{IsPermutation}
+use Rattle.std.proofs.lemmas.List.Elements.{All-from_recursion, recursion_from_All, All-map, All-filter, All-weaker, All-contains_itself}
+use Rattle.std.proofs.lemmas.List.Sorted.{IsPermutation-sym, All-permutation}
+use Rattle.stated_order.specs.Lists.{AreEach}
+use Rattle.stated_order.specs.Steps.{Then, InTurn}
+use Rattle.stated_order.proofs.StepLaws.{then_gives}
+use Rattle.decimal_e.specs.Decimals.{Decimal}
+use Rattle.param_ids.specs.Tables.{ScaleMap}
+use Rattle.snx_rows.specs.declared.rows.Row.{Row}
+use Rattle.snx_blocks.specs.Documents.{PlainDoc}
+use Rattle.control_doc.specs.Plain.{PlainPlan, PlainDatum, PlainReduction, PlainControl}
+use Rattle.control_doc.specs.declared.plans.Form.{Form}
+use Rattle.control_doc.specs.declared.plans.Form.TheVariants as forms
+use Rattle.neq_stack.specs.Neqs.{PlainNeq, IsSound}
+use Rattle.neq_stack.specs.Stacks.{IsStackOf}
+use Rattle.recover_neq.specs.Recovery.{IsRecovered}
+use Rattle.run_inputs.specs.Words.{CombinedFiles}
+use Rattle.run_inputs.specs.Controls.{is_named, apart_from, apart, built_of, built}
+use Rattle.run_inputs.specs.Inputs.{PlainInput, ReadsInputs}
+use Rattle.combine_cli.specs.Alike.{ungrouped, AreAlike, AlikeAreAdmitted, AlikeCombine}
+use Rattle.combine_cli.specs.Combination.{apriori_rows, Clash, ClashesWith, IsAgreed, AreAgreed, RecoversBy, Recovers, Part, IsPart, AreParts, Group, AreGroups, is_in_group, members, IsGroupStack, AreGroupStacks, IsWholeStack, StacksParts, Reports, Texts, IsCombined}
+use Rattle.combine_cli.specs.Verdict.{Combines}
+use Rattle.combine_cli.proofs.Below.{stacks_regroup, stacks_move, some_have_stack}
+use Rattle.combine_cli.proofs.EachLaws.{maps_from_each, any_alike, went_on, in_turn_alike}
+use Rattle.combine_cli.proofs.GroupLaws.{plans_in, neqs_in, all_members, groups_part, groups_exist}
+use Rattle.combine_cli.proofs.SoundParts.{parts_made, parts_sound}
+use Rattle.combine_cli.proofs.RunLaws.{not_found}
+use Rattle.combine_cli.proofs.UngroupLaws.{stacks_ungroup}
+use Rattle.combine_cli.proofs.AlikeInputs.{SamePlan, SameInput, inputs_alike}
+
+-- ---- one a priori value for each name
+clash_kept : (before others : List PlainInput) (one other : PlainInput) → AreEach SameInput before others → SameInput one other → ClashesWith others other → ClashesWith before one
+clash_kept before others one other each same clash =
+    let in_rows = λ (row : Row) (doc : PlainDoc). Any (Clash row) (apriori_rows doc.apriori) in
+    let in_files = λ (doc : PlainDoc) (inputs : List PlainInput). Any (λ (row : Row). Any (λ (earlier : PlainInput). in_rows row earlier.doc) inputs) (apriori_rows doc.apriori) in
+    let here : in_files one.doc others = subst (λ doc. in_files doc others) (sym same.doc) clash in
+    (
+      here.0,
+      here.1,
+      here.2,
+      here.3,
+      any_alike SameInput (λ (earlier : PlainInput). in_rows here.1 earlier.doc) (λ (earlier : PlainInput). in_rows here.1 earlier.doc)
+      (λ x y r q. subst (λ doc. in_rows here.1 doc) (sym r.doc) q) before others each here.4,
+    )
+
+agreed_kept : (before others : List PlainInput) (one other given : PlainInput) → AreEach SameInput before others → SameInput one other → IsAgreed before one (Ok given)
+    → (kept : PlainInput) × IsAgreed others other (Ok kept) × SameInput given kept
+agreed_kept before others one other given each same h =
+    (other, (refl, λ clash. h.1 (clash_kept before others one other each same clash)), subst (λ (i : PlainInput). SameInput i other) (sym h.0) same)
+
+-- ---- the normal equations of each file
+record SamePart (one other : Part) : Type 0 where
+  pub plan : SamePlan one.plan other.plan
+  pub neq : one.neq ≡ other.neq
+
+recovers_kept : (form : Form) (one other : PlainPlan) (scales : ScaleMap) (doc : PlainDoc) (neq : PlainNeq) → one.weight ≡ other.weight → RecoversBy form one scales doc (Ok neq) → RecoversBy form other scales doc (Ok neq)
+recovers_kept forms.Auto one other scales doc neq same h = subst (λ (weight : Decimal). IsRecovered doc weight scales (Ok neq)) same h
+recovers_kept forms.Neq one other scales doc neq same h = subst (λ (weight : Decimal). IsRecovered doc weight scales (Ok neq)) same h
+recovers_kept forms.Solution one other scales doc neq same h = absurd (cc)
+
+module _ (scales : ScaleMap) where
+  part_kept : (before others : List Part) (one other : PlainInput) (part : Part) → AreEach SamePart before others → SameInput one other → IsPart scales before one (Ok part)
+      → (kept : Part) × IsPart scales others other (Ok kept) × SamePart part kept
+  part_kept before others one other part each same h =
+      let f = went_on (Recovers one.plan scales one.doc) _ part h in
+      let is : part ≡ record { plan = one.plan; neq = f.gives } = let e = f.onward in cc in
+      let kept : Part = record { plan = other.plan; neq = f.gives } in
+      let form : one.plan.form ≡ other.plan.form = ap (λ (plan : PlainPlan). plan.form) same.plan in
+      let weight : one.plan.weight ≡ other.plan.weight = ap (λ (plan : PlainPlan). plan.weight) same.plan in
+      let given : Recovers other.plan scales other.doc (Ok f.gives) =
+          subst (λ (doc : PlainDoc). Recovers other.plan scales doc (Ok f.gives)) same.doc
+          (subst (λ (form : Form). RecoversBy form other.plan scales one.doc (Ok f.gives)) form (recovers_kept one.plan.form one.plan other.plan scales one.doc f.gives weight f.given)) in (
+        kept,
+        then_gives (Recovers other.plan scales other.doc) _ f.gives (Ok kept) given refl,
+        subst (λ (p : Part). SamePart p kept) (sym is) (record { plan = same.plan; neq = refl }),
+      )
+
+-- ---- stacks
+group_stacks_each : (parts : List Part) (before : List PlainNeq) (groups : List Group) (stacks : List PlainNeq) → InTurn (IsGroupStack parts) before groups (Ok stacks)
+    → (rest : List PlainNeq) × (stacks ≡ before ++ rest) × AreEach IsStackOf (map (members parts) groups) rest
+group_stacks_each parts before [] stacks h = ([], (let same : stacks ≡ before = cc in same ∙ sym (append-nil before)), tt)
+group_stacks_each parts before (group ∷ groups) stacks h =
+    let f = went_on (IsGroupStack parts before group) (λ stack. InTurn (IsGroupStack parts) (before ++ stack ∷ []) groups) stacks h in
+    let rest = group_stacks_each parts (before ++ f.gives ∷ []) groups stacks f.onward in
+    (f.gives ∷ rest.0, rest.1 ∙ append_assoc before (f.gives ∷ []) rest.0, (f.given, rest.2))
+
+each_group_stacks : (parts : List Part) (before : List PlainNeq) (groups : List Group) (rest : List PlainNeq) → AreEach IsStackOf (map (members parts) groups) rest
+    → InTurn (IsGroupStack parts) before groups (Ok (before ++ rest))
+each_group_stacks parts before [] [] each = ap Ok (append-nil before)
+each_group_stacks parts before [] (stack ∷ rest) each = absurd each
+each_group_stacks parts before (group ∷ groups) [] each = absurd each
+each_group_stacks parts before (group ∷ groups) (stack ∷ rest) each =
+    then_gives (IsGroupStack parts before group) (λ stack. InTurn (IsGroupStack parts) (before ++ stack ∷ []) groups) stack (Ok (before ++ stack ∷ rest)) each.0
+    (subst (λ (all : List PlainNeq). InTurn (IsGroupStack parts) (before ++ stack ∷ []) groups (Ok all)) (append_assoc before (stack ∷ []) rest) (each_group_stacks parts (before ++ stack ∷ []) groups rest each.1))
+
+-- the whole stack is the stack of all parts
+pub whole_is_of_parts : (parts : List Part) (neq : PlainNeq) → StacksParts parts (Ok neq) → IsStackOf (neqs_in parts) neq
+whole_is_of_parts parts neq h =
+    let f = went_on (AreGroupStacks parts h.0) IsWholeStack neq h.2 in
+    let each = group_stacks_each parts [] h.0 f.gives f.given in
+    let all : IsStackOf (all_members parts h.0) neq = stacks_regroup (map (members parts) h.0) f.gives neq (subst (λ (stacks : List PlainNeq). AreEach IsStackOf (map (members parts) h.0) stacks) (sym each.1) each.2) f.onward in
+    stacks_move (all_members parts h.0) (neqs_in parts) neq (IsPermutation-sym (neqs_in parts) (all_members parts h.0) (groups_part parts h.0 h.1)) all
+
+-- a list of parts, put into groups, has the stack that it has as a whole
+contains_neq : (parts : List Part) (part : Part) → Contains parts part → Contains (neqs_in parts) part.neq
+contains_neq parts part there =
+    (there.0, rw (length-map parts (λ (p : Part). p.neq)) there.1, get_or-map (λ (p : Part). p.neq) parts there.0 part ∙ ap (λ (p : Part). p.neq) there.2)
+
+members_among : (parts : List Part) (group : Group) → All (Contains (neqs_in parts)) (members parts group)
+members_among parts group =
+    All-map (Contains (neqs_in parts)) (λ (part : Part). part.neq) (filter (is_in_group group) parts)
+    (All-filter (is_in_group group) (λ (part : Part). Contains (neqs_in parts) part.neq) parts
+    (All-weaker (Contains parts) (λ (part : Part). Contains (neqs_in parts) part.neq) (contains_neq parts) parts (All-contains_itself parts)))
+
+module _ (parts : List Part) (neq : PlainNeq) (sound : All IsSound (neqs_in parts)) (stack : IsStackOf (neqs_in parts) neq) where
+  groups_stacked : (groups : List Group) → (stacks : List PlainNeq) × AreEach IsStackOf (map (members parts) groups) stacks
+  groups_stacked [] = ([], tt)
+  groups_stacked (group ∷ groups) =
+      let first = some_have_stack (neqs_in parts) (members parts group) neq sound stack (members_among parts group) in
+      let rest = groups_stacked groups in
+      (first.0 ∷ rest.0, (first.1, rest.1))
+
+  parts_stacked : StacksParts parts (Ok neq)
+  parts_stacked =
+      let found = groups_exist (plans_in parts) in
+      let stacks = groups_stacked found.0 in
+      let all : IsStackOf (all_members parts found.0) neq = stacks_move (neqs_in parts) (all_members parts found.0) neq (groups_part parts found.0 found.1) stack in
+      let whole : IsStackOf stacks.0 neq = stacks_ungroup (map (members parts) found.0) stacks.0 neq stacks.1 all in
+      (found.0, found.1, then_gives (AreGroupStacks parts found.0) IsWholeStack stacks.0 (Ok neq) (each_group_stacks parts [] found.0 stacks.0 stacks.1) whole)
+
+-- ---- all steps
+combined_kept : (scales : ScaleMap) (inputs others : List PlainInput) (texts : Texts) → AreEach SameInput inputs others → IsCombined scales inputs (Ok texts) → IsCombined scales others (Ok texts)
+combined_kept scales inputs others texts each h =
+    let a = went_on (AreAgreed inputs) _ texts h in
+    let b = went_on (AreParts scales a.gives) _ texts a.onward in
+    let c = went_on (StacksParts b.gives) _ texts b.onward in
+    let agreed = in_turn_alike IsAgreed IsAgreed SameInput SameInput agreed_kept [] [] inputs others a.gives tt each a.given in
+    let parts = in_turn_alike (IsPart scales) (IsPart scales) SameInput SamePart (part_kept scales) [] [] a.gives agreed.0 b.gives tt agreed.2 b.given in
+    let same : neqs_in b.gives ≡ neqs_in parts.0 = maps_from_each SamePart (λ (p : Part). p.neq) (λ (p : Part). p.neq) (λ one other r. r.neq) b.gives parts.0 parts.2 in
+    let stack : IsStackOf (neqs_in parts.0) c.gives = subst (λ (neqs : List PlainNeq). IsStackOf neqs c.gives) same (whole_is_of_parts b.gives c.gives c.given) in
+    let sound = parts_sound (neqs_in parts.0) c.gives (parts_made scales agreed.0 parts.0 parts.1) stack in
+    then_gives (AreAgreed others) _ agreed.0 (Ok texts) agreed.1
+    (then_gives (AreParts scales agreed.0) _ parts.0 (Ok texts) parts.1 (then_gives (StacksParts parts.0) _ c.gives (Ok texts) (parts_stacked parts.0 c.gives sound stack) c.onward))
+
+pub alike_combine : AlikeCombine
+alike_combine files one other texts alike h =
+    let f = went_on (ReadsInputs one.files files) _ texts h in
+    let read = inputs_alike files one other f.gives alike f.given in
+    then_gives (ReadsInputs other.files files) (IsCombined other.scales) read.0 (Ok texts) read.1
+    (subst (λ (scales : ScaleMap). IsCombined scales read.0 (Ok texts)) alike.scales (combined_kept one.scales f.gives read.0 texts read.2 f.onward))
+
+-- ---- admitted together
+unnamed : (test : PlainPlan → Bool) (plans : List PlainPlan) → find test plans ≡ None → AllByRecursion (λ plan. test plan ≡ false) plans
+unnamed test [] none = tt
+unnamed test (plan ∷ plans) none = by_test (test plan) refl none (unnamed test plans)
+  where
+    by_test : (passes : Bool) → test plan ≡ passes → cond passes (Some plan) (find test plans) ≡ None → (find test plans ≡ None → AllByRecursion (λ plan. test plan ≡ false) plans) → AllByRecursion (λ plan. test plan ≡ false) (plan ∷ plans)
+    by_test true e none later = absurd (cc)
+    by_test false e none later = (e, later none)
+
+none_named : (test : PlainPlan → Bool) (plans : List PlainPlan) → AllByRecursion (λ plan. test plan ≡ false) plans → find test plans ≡ None
+none_named test [] all = refl
+none_named test (plan ∷ plans) all = rw all.0 (none_named test plans all.1)
+
+over_ungrouped : (P : PlainPlan → Type 0) → ((plan : PlainPlan) → P plan → P (ungrouped plan)) → (plans : List PlainPlan) → AllByRecursion P plans → AllByRecursion P (map ungrouped plans)
+over_ungrouped P on [] all = tt
+over_ungrouped P on (plan ∷ plans) all = (on plan all.0, over_ungrouped P on plans all.1)
+
+from_ungrouped : (P : PlainPlan → Type 0) → ((plan : PlainPlan) → P (ungrouped plan) → P plan) → (plans : List PlainPlan) → AllByRecursion P (map ungrouped plans) → AllByRecursion P plans
+from_ungrouped P off [] all = tt
+from_ungrouped P off (plan ∷ plans) all = (off plan all.0, from_ungrouped P off plans all.1)
+
+apart_kept : (names : CombinedFiles) (one other : PlainControl) → AreAlike one other → apart names one ≡ Ok tt → apart names other ≡ Ok tt
+apart_kept names one other alike kept =
+    let none = not_found (find (is_named names) one.files) tt (sym kept) in
+    let Unnamed = λ (plan : PlainPlan). is_named names plan ≡ false in
+    let all = over_ungrouped Unnamed (λ plan e. e) one.files (unnamed (is_named names) one.files none) in
+    let moved = recursion_from_All Unnamed (map ungrouped other.files)
+        (All-permutation Unnamed (map ungrouped one.files) (map ungrouped other.files) alike.files (All-from_recursion Unnamed (map ungrouped one.files) all)) in
+    ap apart_from (none_named (is_named names) other.files (from_ungrouped Unnamed (λ plan e. e) other.files moved))
+
+built_kept : (names : CombinedFiles) (one other : PlainControl) → AreAlike one other → built names one ≡ Ok tt → built names other ≡ Ok tt
+built_kept names one other alike h =
+    subst (λ (reductions : List PlainReduction). built_of names.control other.datum reductions ≡ Ok tt) alike.reductions
+    (subst (λ (datum : Option PlainDatum). built_of names.control datum one.reductions ≡ Ok tt) alike.datum h)
+
+pub alike_admitted : AlikeAreAdmitted
+alike_admitted names one other alike kept done = (apart_kept names one other alike kept, built_kept names one other alike done)

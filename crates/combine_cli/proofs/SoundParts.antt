@@ -1,0 +1,132 @@
+-- The parts of a stack are sound: what a part has of a parameter, the stack has.
+use Rattle.std.proofs.Common.{◌≡◌, ◌∙◌, ◌++◌, ◌∷◌, ◌<◌, ◌≤◌, ◌^◌, ℕ, ℤ, zero, suc, List, [], length, get_or, map, slice_get, Some, Option, Result, Ok, Err, refl, ap, sym, subst, arith}
+use Rattle.std.proofs.lemmas.List.{length-map}
+use Rattle.std.specs.Prelude.{All, Contains}
+use Rattle.std.proofs.lemmas.Option.{slice_get-get_or, same_Some}
+use Rattle.std.proofs.lemmas.List.Elements.{All-contains, All-contains_itself, All-head, All-tail, All-push, All-nil, All-cons, All-weaker}
+use Rattle.stated_order.specs.Steps.{InTurn}
+use Rattle.decimal_e.specs.Decimals.{Decimal}
+use Rattle.decimal_e.specs.Fractions.{IsAtMost}
+use Rattle.param_ids.specs.Plain.{PlainId}
+use Rattle.param_ids.specs.Tables.{ScaleMap, IsScale}
+use Rattle.snx_blocks.specs.Documents.{PlainDoc}
+use Rattle.control_doc.specs.Plain.{PlainPlan}
+use Rattle.control_doc.specs.declared.plans.Form.{Form}
+use Rattle.control_doc.specs.declared.plans.Form.TheVariants as forms
+use Rattle.neq_stack.specs.Neqs.{PlainNeq, IsSound}
+use Rattle.neq_stack.specs.ByName.{Parameter, HasParameter}
+use Rattle.neq_stack.specs.Stacks.{IsStackOf}
+use Rattle.neq_stack.specs.Systems.{no_name}
+use Rattle.recover_neq.specs.Blocks.{Blocks}
+use Rattle.recover_neq.specs.Recovery.{IsNeqOf, IsRecovered}
+use Rattle.run_inputs.specs.Inputs.{PlainInput}
+use Rattle.combine_cli.specs.Combination.{RecoversBy, Recovers, Part, IsPart, AreParts}
+use Rattle.combine_cli.proofs.EachLaws.{went_on}
+use Rattle.combine_cli.proofs.GroupLaws.{neqs_in}
+
+-- ---- recovered normal equations
+pub record IsMade (neq : PlainNeq) : Type 0 where
+  pub blocks : Blocks
+  pub weight : Decimal
+  pub scales : ScaleMap
+  pub is : IsNeqOf blocks weight scales neq
+
+recovered_made : (doc : PlainDoc) (weight : Decimal) (scales : ScaleMap) (neq : PlainNeq) → IsRecovered doc weight scales (Ok neq) → IsMade neq
+recovered_made doc weight scales neq h =
+    let a = went_on _ _ neq h in
+    let b = went_on _ _ neq a.onward in
+    let c = went_on _ _ neq b.onward in
+    record { blocks = a.gives; weight = weight; scales = scales; is = c.onward.0 }
+
+form_made : (form : Form) (plan : PlainPlan) (scales : ScaleMap) (doc : PlainDoc) (neq : PlainNeq) → RecoversBy form plan scales doc (Ok neq) → IsMade neq
+form_made forms.Auto plan scales doc neq h = recovered_made doc plan.weight scales neq h
+form_made forms.Neq plan scales doc neq h = recovered_made doc plan.weight scales neq h
+form_made forms.Solution plan scales doc neq h = absurd (cc)
+
+part_made : (scales : ScaleMap) (before : List Part) (input : PlainInput) (part : Part) → IsPart scales before input (Ok part) → IsMade part.neq
+part_made scales before input part h =
+    let f = went_on (Recovers input.plan scales input.doc) _ part h in
+    let is : part ≡ record { plan = input.plan; neq = f.gives } = let e = f.onward in cc in
+    subst (λ (p : Part). IsMade p.neq) (sym is) (form_made input.plan.form input.plan scales input.doc f.gives f.given)
+
+abbrev PartMade : Part → Type 0
+PartMade part = IsMade part.neq
+
+made_from : (scales : ScaleMap) (before : List Part) (inputs : List PlainInput) (parts : List Part) → All PartMade before → InTurn (IsPart scales) before inputs (Ok parts) → All PartMade parts
+made_from scales before [] parts made h = let same : parts ≡ before = cc in subst (All PartMade) (sym same) made
+made_from scales before (input ∷ inputs) parts made h =
+    let f = went_on (IsPart scales before input) (λ part. InTurn (IsPart scales) (before ++ part ∷ []) inputs) parts h in
+    made_from scales (before ++ f.gives ∷ []) inputs parts (All-push PartMade before f.gives made (part_made scales before input f.gives f.given)) f.onward
+
+pub neqs_made : (parts : List Part) → All PartMade parts → All IsMade (neqs_in parts)
+neqs_made [] made = All-nil IsMade
+neqs_made (part ∷ parts) made = All-cons IsMade part.neq (neqs_in parts) (All-head PartMade part parts made) (neqs_made parts (All-tail PartMade part parts made))
+
+pub parts_made : (scales : ScaleMap) (inputs : List PlainInput) (parts : List Part) → AreParts scales inputs (Ok parts) → All IsMade (neqs_in parts)
+parts_made scales inputs parts h = neqs_made parts (made_from scales [] inputs parts (All-nil PartMade) h)
+
+-- ---- parts of a sound stack
+at_place : {X : Type 0} (P : X → Type 0) (xs : List X) (k : ℕ) (x : X) → slice_get xs k ≡ Some x → All P xs → P x
+at_place P [] k x e all = absurd (cc)
+at_place P (y ∷ xs) zero x e all = subst P (same_Some y x e) (All-head P y xs all)
+at_place P (y ∷ xs) (suc k) x e all = at_place P xs k x e (All-tail P y xs all)
+
+some_at : {X : Type 0} (xs : List X) (k : ℕ) → k < length xs → (x : X) × (slice_get xs k ≡ Some x)
+some_at [] k lt = absurd (omega arith)
+some_at (x ∷ xs) zero lt = (x, refl)
+some_at (x ∷ xs) (suc k) lt = some_at xs k (omega arith)
+
+module _ (neq whole : PlainNeq) (made : IsMade neq) (sound : IsSound whole) (has : (id : PlainId) (parameter : Parameter) → HasParameter neq id parameter → HasParameter whole id parameter) where
+  values_long : length neq.apriori ≡ length neq.names
+  values_long = ap length made.is.apriori ∙ length-map neq.names _
+
+  units_long : length neq.units ≡ length neq.names
+  units_long = ap length made.is.units ∙ length-map neq.names _
+
+  scales_long : length neq.scales ≡ length neq.names
+  scales_long = ap length made.is.exponents ∙ length-map neq.names _
+
+  rights_long : length neq.right ≡ length neq.names
+  rights_long = ap length made.is.right ∙ length-map neq.names _
+
+  parameter_at : (k : ℕ) → k < length neq.names → (id : PlainId) × (parameter : Parameter) × HasParameter neq id parameter × (slice_get neq.apriori k ≡ Some parameter.value) × (slice_get neq.scales k ≡ Some parameter.exponent)
+  parameter_at k lt =
+      let id = some_at neq.names k lt in
+      let value = some_at neq.apriori k (rw values_long lt) in
+      let unit = some_at neq.units k (rw units_long lt) in
+      let exponent = some_at neq.scales k (rw scales_long lt) in
+      let parameter : Parameter = record { value = value.0; unit = unit.0; exponent = exponent.0 } in
+      (id.0, parameter, record { place = k; name = id.1; value_is = value.1; unit_is = unit.1; exponent_is = exponent.1 }, value.1, exponent.1)
+
+  modest_at : (k : ℕ) (d : Decimal) → k < length neq.apriori → IsAtMost (10 ^ 12) (get_or neq.apriori k d)
+  modest_at k d lt =
+      let p = parameter_at k (rw values_long at lt) in
+      let there = has p.0 p.1 p.2 in
+      let same : p.1.value ≡ get_or neq.apriori k d = same_Some p.1.value (get_or neq.apriori k d) (sym p.3 ∙ slice_get-get_or neq.apriori k d lt) in
+      subst (IsAtMost (10 ^ 12)) same (at_place (IsAtMost (10 ^ 12)) whole.apriori there.place p.1.value there.value_is sound.modest)
+
+  scaled_at : (k : ℕ) (d : ℤ) → k < length neq.scales → IsScale (get_or neq.scales k d)
+  scaled_at k d lt =
+      let p = parameter_at k (rw scales_long at lt) in
+      let there = has p.0 p.1 p.2 in
+      let same : p.1.exponent ≡ get_or neq.scales k d = same_Some p.1.exponent (get_or neq.scales k d) (sym p.4 ∙ slice_get-get_or neq.scales k d lt) in
+      subst IsScale same (at_place IsScale whole.scales there.place p.1.exponent there.exponent_is sound.scaled)
+
+  part_sound : IsSound neq
+  part_sound = record {
+    names = made.is.names.1;
+    rows = made.is.rows;
+    entries = made.is.lower;
+    rights = rights_long;
+    values = values_long;
+    named_units = units_long;
+    exponents = scales_long;
+    modest = modest_at;
+    scaled = scaled_at;
+  }
+
+pub parts_sound : (neqs : List PlainNeq) (whole : PlainNeq) → All IsMade neqs → IsStackOf neqs whole → All IsSound neqs
+parts_sound neqs whole made stack =
+    All-weaker (Contains neqs) IsSound (λ neq there.
+    part_sound neq whole (All-contains IsMade neqs neq made there) stack.sound (λ id parameter has. (stack.parameters id parameter).1 (there.0, neq, there.1, there.2, has))) neqs
+    (All-contains_itself neqs)
