@@ -3,12 +3,13 @@
 
     check_program.py                     builds the program by the launcher ./snxcomb, and checks it
     check_program.py PROGRAM             checks a program that is built
-    check_program.py PROGRAM GROUP ..    checks it on these groups of tools/documents.py alone
+    check_program.py PROGRAM GROUP ..    checks it on these groups of tools/documents.py and tools/combinations.py alone
 
 Each row of the table below is one run in a folder of its own, below a temporary folder. It says what lies there before, what is
-run, and what must come; all else in the folder must be as before. The documents of tools/documents.py are run likewise, and
-tools/solve.py says what must come. One line is printed for each row and for each group of documents, and one for each document
-that has another answer; at the end 'N passed, M failed'. The status is 0 where none failed.
+run, and what must come; all else in the folder must be as before. The documents of tools/documents.py and the combinations of
+tools/combinations.py are run likewise, and tools/solve.py and tools/combine.py say what must come. One line is printed for each
+row and for each group of the others, and one for each of these that has another answer; at the end 'N passed, M failed'. The
+status is 0 where none failed.
 """
 
 import os
@@ -21,11 +22,12 @@ from concurrent.futures import ThreadPoolExecutor
 from dataclasses import dataclass, field
 from pathlib import Path
 
+import combinations
 import documents
 
 TOP = Path(__file__).resolve().parent.parent
 SECONDS = 60
-# how many documents are run at once
+# how many documents or combinations are run at once
 TOGETHER = 4
 NOBODY = 65534
 
@@ -89,6 +91,9 @@ class Row:
 
 SOLVE = ["solve", "in", "report"]
 WRITTEN = {"report": REPORT}
+COMBINE = ["combine", "control", "out", "report"]
+CONTROL = b'[output]\nagency = "XYZ"\ncreated = "24:002:00000"\n[[file]]\nname = "in"\n'
+PARTS = {"control": CONTROL, "in": ONE_STATION}
 
 ROWS = [
     # ---- reports
@@ -100,7 +105,7 @@ ROWS = [
     Row("one word", ["solve"], 2, WORDS_LINE),
     Row("two words", ["solve", "in"], 2, WORDS_LINE),
     Row("four words", [*SOLVE, "more"], 2, WORDS_LINE),
-    Row("another command", ["combine", "in", "report"], 2, WORDS_LINE),
+    Row("another command", ["combined", "in", "report"], 2, WORDS_LINE),
     Row("one name twice", ["solve", "in", "in"], 2, WORDS_LINE),
     Row("a command that isn't UTF-8", [b"\xff", "in", "report"], 2),
     Row("a name that isn't UTF-8", ["solve", "in", b"report\xff"], 2),
@@ -116,6 +121,14 @@ ROWS = [
     Row("no pivot, and a report before", SOLVE, 6, PIVOT_LINE, before={"in": NO_PIVOT, "report": b"before"}),
     Row("IN's name is empty", ["solve", "", "report"], 3, b"snxcomb: no file \n"),
     Row("IN's name has other letters", ["solve", "dänisch".encode(), "report"], 3, "snxcomb: no file dänisch\n".encode()),
+    # ---- combinations: OUT first, then REPORT
+    Row("OUT may not be written", COMBINE, 5, DESK_LINE, before={**PARTS, "out": Locked(b"before"), "report": b"before"}, as_user=True),
+    Row("OUT is a folder", COMBINE, 5, DESK_LINE, before={**PARTS, "out": Folder}),
+    Row("the combination's REPORT is a folder", COMBINE, 5, DESK_LINE, before={**PARTS, "report": Folder}, made={"out": b""}),
+    Row("a longer OUT is replaced", COMBINE, 0, before={**PARTS, "out": b"x" * 5000}, made={"out": b"", "report": REPORT}),
+    Row("the control file is a folder", COMBINE, 5, DESK_LINE, before={"control": Folder}),
+    Row("a listed file is a folder", COMBINE, 5, DESK_LINE, before={"control": CONTROL, "in": Folder}),
+    Row("a listed file is too long", COMBINE, 3, b"snxcomb: too long in\n", before={"control": CONTROL, "in": Zeros(LIMIT + 1)}),
     # ---- want of memory
     Row("no memory for IN", SOLVE, 4, MEMORY_LINE, before={"in": Zeros(LIMIT)}, limits={resource.RLIMIT_AS: LIMIT // 2}),
     Row("no memory, and nobody reads standard error", SOLVE, 5, before={"in": Zeros(LIMIT)}, limits={resource.RLIMIT_AS: LIMIT // 2}, closed="stderr"),
@@ -275,20 +288,32 @@ def row_of(case):
     return Row(case.what, SOLVE, 0, before=before, made={"report": text.encode()})
 
 
-def checked_documents(program, room, group):
-    """How many documents of a group passed and how many failed."""
-    cases = documents.cases(group)
+def row_of_combination(case):
+    """The run of a combination, with the answer of tools/combine.py."""
+    status, line, made = case.answer
+    return Row(case.what, case.words, status, line.encode(), before=case.files, made={name: text.encode() for name, text in made.items()})
+
+
+# what makes the cases of a group, and the run of a case
+GROUPS = {name: (lambda name=name: documents.cases(name), row_of) for name in documents.GROUPS}
+GROUPS |= {name: (lambda make=make: list(make()), row_of_combination) for name, make in combinations.GROUPS.items()}
+
+
+def checked_group(program, room, group):
+    """How many cases of a group passed and how many failed."""
+    make, row_for = GROUPS[group]
+    cases = make()
     failed = 0
     with ThreadPoolExecutor(TOGETHER) as pool:
-        answers = pool.map(lambda it: tried(program, row_of(it[1]), room / str(it[0])), enumerate(cases))
+        answers = pool.map(lambda it: tried(program, row_for(it[1]), room / str(it[0])), enumerate(cases))
     for case, found in zip(cases, answers):
         if not case.is_as_wanted():
-            found.append(f"tools/solve.py doesn't answer {case.wants!r}")
+            found.append(f"tools/ doesn't answer {case.wants!r}")
         failed += bool(found)
         if found:
             print(f"FAILED  {group}: {case.what}: {'; '.join(found)}", flush=True)
     if not failed:
-        print(f"passed  {group}: {len(cases)} documents", flush=True)
+        print(f"passed  {group}: {len(cases)} cases", flush=True)
     return len(cases) - failed, failed
 
 
@@ -303,7 +328,7 @@ def main():
         program.chmod(0o755)
         if not groups:
             counts.append(checked_rows(program, room))
-        counts += [checked_documents(program, room, group) for group in groups or documents.GROUPS]
+        counts += [checked_group(program, room, group) for group in groups or GROUPS]
         passed, failed = (sum(it) for it in zip(*counts))
         print(f"{passed} passed, {failed} failed")
         return 1 if failed else 0

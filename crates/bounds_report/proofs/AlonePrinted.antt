@@ -1,6 +1,6 @@
 -- The printed numbers are determined by the working table, its exponents, the start vector and the radii, and so is the first
 -- row that can't be printed. No numbers are printed where there is such a row.
-use Rattle.std.proofs.Common.{◌≡◌, ◌≤◌, ◌<◌, ◌^◌, inl, inr, ◌∙◌, ℕ, suc, ℤ, List, arith, sym}
+use Rattle.std.proofs.Common.{◌≡◌, ◌≤◌, ◌<◌, inl, inr, ◌∙◌, ℕ, suc, ℤ, List, arith, sym}
 use Rattle.whole_numbers.specs.Intervals.{size}
 use Rattle.stated_order.proofs.FirstLaws.{neither_less}
 use Rattle.whole_numbers.proofs.ListLaws.{equal_lists}
@@ -8,7 +8,7 @@ use Rattle.whole_numbers.proofs.Sums.{total_part}
 use Rattle.decimal_e.specs.Decimals.{Decimal}
 use Rattle.sys_model.specs.Systems.{Table}
 use Rattle.bounds_report.specs.Printing.{working_difference, DifferencesFit, ArePrinted}
-use Rattle.bounds_report.specs.Refusals.{IsFirstUnprintable, IsFirstFar, IsPrintRefused}
+use Rattle.bounds_report.specs.Refusals.{IsPrintRefused}
 use Rattle.bounds_report.specs.declared.PrintError.TheVariants.{Range}
 use Rattle.bounds_report.specs.declared.numbers.Printed.{Printed}
 

@@ -4,7 +4,7 @@ use Rattle.std.proofs.lemmas.List.{length_push}
 use Rattle.whole_numbers.specs.Sum.{total_to}
 use Rattle.whole_numbers.specs.Intervals.{Interval, size}
 use Rattle.whole_numbers.proofs.Sums.{total_to_le}
-use Rattle.bounds_report.specs.Differences.{difference_of, word_at, AreDifferencesOf}
+use Rattle.bounds_report.specs.Differences.{difference_of, nth_entry, AreDifferencesOf}
 use Rattle.bounds_report.specs.Residuals.{AreSmallIntervals}
 use Rattle.bounds_report.specs.Rows.{RowLists}
 use Rattle.whole_numbers.proofs.ListLaws.{each_push}
@@ -25,10 +25,10 @@ differences_push n r zs z room done left is = record {
   rows = each_push (λ k z. z ≡ difference_of r k) zs n z _ done.len done.rows is;
 }
 
-pub small_words : (n : ℕ) (r : RowLists) (zs : List Interval) → AreDifferencesOf n r zs → AreSmallIntervals n zs
-small_words n r zs done = record {
+pub small_intervals : (n : ℕ) (r : RowLists) (zs : List Interval) → AreDifferencesOf n r zs → AreSmallIntervals n zs
+small_intervals n r zs done = record {
   len = done.len;
   sum =
       let fit : total_to n (λ j. size (difference_of r j)) ≤ 2 ^ 65 = done.fit in
-      omega (arith, fit, total_to_le n (λ j. size (word_at zs j)) (λ j. size (difference_of r j)) (λ j l. omega (arith, ap (λ v. size v) (done.rows j l))));
+      omega (arith, fit, total_to_le n (λ j. size (nth_entry zs j)) (λ j. size (difference_of r j)) (λ j l. omega (arith, ap (λ v. size v) (done.rows j l))));
 }

@@ -14,7 +14,7 @@ use Rattle.sys_model.specs.Scaling.{TimesPower}
 use Rattle.bounds_report.specs.Bounds.{LiesBetween}
 use Rattle.bounds_report.specs.Printing.{lower_of, upper_of}
 use Rattle.bounds_report.specs.declared.numbers.Printed.{Printed}
-use Rattle.bounds_report.proofs.LawWords.{holds_to_power, decimal_interval_holds}
+use Rattle.bounds_report.proofs.LawIntervals.{holds_to_power, decimal_interval_holds}
 
 scale_sum : (a x : ℤ) (t s d : ℕ) → (a *ℤ pos t) *ℤ pos s +ℤ (x *ℤ pos t) *ℤ pos d ≡ pos t *ℤ (a *ℤ pos s +ℤ x *ℤ pos d)
 scale_sum a x t s d = simp ring (omega (arith, ints))

@@ -22,7 +22,7 @@ use Rattle.sys_model.proofs.ScalingLaws.{times_then, times_back, times_same, tim
 use Rattle.bounds_report.specs.Bounds.{AreDifferences}
 use Rattle.bounds_report.specs.Printing.{difference, estimate_of, working_difference}
 use Rattle.bounds_report.specs.declared.numbers.Printed.{Printed}
-use Rattle.bounds_report.proofs.LawWords.{decimal_interval_holds}
+use Rattle.bounds_report.proofs.LawIntervals.{decimal_interval_holds}
 
 -- how far the estimate is from x0, over 10^16 times the denominator of x0
 abbrev pub away : Decimal → ℤ → ℤ

@@ -5,10 +5,10 @@ pub mod Law
 pub mod LawBetween
 pub mod LawDifferences
 pub mod LawResidual
-pub mod LawWords
+pub mod LawIntervals
 pub mod PrintingLaws
 pub mod ResidualLaws
 pub mod RoundingLaws
 pub mod RowLaws
 pub mod TermLaws
-pub mod WordSizes
+pub mod IntervalSizes

@@ -4,7 +4,7 @@ use Rattle.std.proofs.Math.IntN.{◌-ℤ◌}
 use Rattle.whole_numbers.specs.Intervals.{Interval, size, interval_sub, interval_mul, sum_intervals}
 use Rattle.whole_numbers.proofs.IntervalLaws.{sum_intervals_same}
 use Rattle.sys_model.specs.Systems.{Table}
-use Rattle.bounds_report.specs.Differences.{difference_of, word_at, AreDifferencesOf}
+use Rattle.bounds_report.specs.Differences.{difference_of, nth_entry, AreDifferencesOf}
 use Rattle.bounds_report.specs.Ends.{AreEnds, ends_of}
 use Rattle.bounds_report.specs.Printing.{numbers_of, numbers_at}
 use Rattle.bounds_report.specs.Residuals.{row_sum, residual_size, numbers_from, AreRowsPrinted}
@@ -15,7 +15,7 @@ use Rattle.bounds_report.specs.declared.numbers.Printed.{Printed}
 -- a list with the differences of the rows makes of a row of a table what they make of it
 sum_is : (n : ℕ) (t : Table) (r : RowLists) (zs : List Interval) (i : ℕ) → AreDifferencesOf n r zs → row_sum n t zs i ≡ sum_intervals n (λ j. interval_mul (t.entry i j) (difference_of r j))
 sum_is n t r zs i done =
-    sum_intervals_same n (λ j. interval_mul (t.entry i j) (word_at zs j)) (λ j. interval_mul (t.entry i j) (difference_of r j)) (λ j l. ap (λ z. interval_mul (t.entry i j) z) (done.rows j l))
+    sum_intervals_same n (λ j. interval_mul (t.entry i j) (nth_entry zs j)) (λ j. interval_mul (t.entry i j) (difference_of r j)) (λ j l. ap (λ z. interval_mul (t.entry i j) z) (done.rows j l))
 
 abbrev with_residual : Ends → ℕ → ℤ → Printed
 with_residual e residual place = record { estimate = e.estimate; lower = e.lower; upper = e.upper; residual = residual; place = place }

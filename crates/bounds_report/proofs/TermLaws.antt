@@ -77,7 +77,7 @@ apriori_small d (negsuc k) h l m = absurd (omega (arith, ints))
 pub ends_ordered : (m k : ℤ) → floor_scaled m k ≤ℤ ceil_scaled m k
 ends_ordered m k = floor_scaled_le_ceil m m k (omega (arith, ints))
 
-pub ruleset word_rules = (to_z-of_z, ends_ordered, apriori_small)
+pub ruleset interval_rules = (to_z-of_z, ends_ordered, apriori_small)
 
 -- ---- the estimate in units of 10^-16
 raised_small : (y : ℤ) (k : ℕ) → unsigned_abs y ≤ 2 ^ 64 → k ≤ 17 → unsigned_abs (y *ℤ pos (10 ^ k)) ≤ 2 ^ 64 * 10 ^ 17

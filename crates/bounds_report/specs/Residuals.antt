@@ -3,7 +3,7 @@ use Rattle.std.specs.Prelude.{◌≡◌, ◌≤◌, ◌^◌, ℕ, ℤ, pos, ◌-
 use Rattle.whole_numbers.specs.Sum.{total_to}
 use Rattle.whole_numbers.specs.Intervals.{Interval, size, interval_sub, interval_mul, sum_intervals}
 use Rattle.sys_model.specs.Systems.{Table}
-use Rattle.bounds_report.specs.Differences.{word_at}
+use Rattle.bounds_report.specs.Differences.{nth_entry}
 use Rattle.bounds_report.specs.Ends.{ends_at}
 use Rattle.bounds_report.specs.Printing.{ArePrinted}
 use Rattle.bounds_report.specs.Refusals.{IsPrintRefused}
@@ -15,11 +15,11 @@ use Rattle.bounds_report.specs.declared.PrintError.{PrintError}
 -- a list of n intervals, with sizes of at most 2^65 in sum
 pub record AreSmallIntervals (n : ℕ) (zs : List Interval) : Type 0 where
   pub len : length zs ≡ n
-  pub sum : total_to n (λ j. size (word_at zs j)) ≤ 2 ^ 65
+  pub sum : total_to n (λ j. size (nth_entry zs j)) ≤ 2 ^ 65
 
 -- what they make of row i of a table
 abbrev pub row_sum : ℕ → Table → List Interval → ℕ → Interval
-row_sum n t zs i = sum_intervals n (λ j. interval_mul (t.entry i j) (word_at zs j))
+row_sum n t zs i = sum_intervals n (λ j. interval_mul (t.entry i j) (nth_entry zs j))
 
 -- the greatest size of what they leave of its right side
 abbrev pub residual_size : ℕ → Table → List Interval → ℕ → ℕ

@@ -10,9 +10,9 @@ ghost use Rattle.bounds_report.specs.Rows.{row_count, power_at};
 
 use crate::PrintError;
 use crate::ends::Ends;
+use crate::intervals::interval_difference;
 use crate::rows::Rows;
-use crate::terms::apriori_word;
-use crate::words::word_difference;
+use crate::terms::apriori_interval;
 use decimal_e::Dec;
 use interval_word::Iv;
 use std::alloc::Global;
@@ -22,15 +22,15 @@ const SUM_LIMIT: u128 = 1 << 65;
 
 /// Whether the interval holds this number alone.
 fn is_exactly(w: &Iv, v: i128) -> bool
-    requires word { size w.now ≤ 10 ^ 37 }
+    requires interval { size w.now ≤ 10 ^ 37 }
     requires number { unsigned_abs v ≤ 10 ^ 37 }
     ensures { result ≡ nat_le (size (interval_sub w.now (point_interval v))) 0 }
 {
-    word_difference(w, &Iv::point(v)).mag() == 0
+    interval_difference(w, &Iv::point(v)).mag() == 0
 }
 
 /// The interval at 10^20 of an estimate in units of 10^-16.
-fn estimate_word(estimate: i128) -> Iv
+fn estimate_interval(estimate: i128) -> Iv
     requires { unsigned_abs estimate ≤ 10 ^ 33 }
     ensures value { result ≡ point_interval (estimate *ℤ pos (10 ^ 4)) }
     ensures bound { size result ≤ 10 ^ 37 }
@@ -44,10 +44,10 @@ fn distance(x0: &Dec, estimate: i128) -> Iv
     requires small { unsigned_abs estimate ≤ 10 ^ 33 }
     ensures { result ≡ difference x0.now estimate }
 {
-    if is_exactly(&apriori_word(x0, 16), estimate) {
+    if is_exactly(&apriori_interval(x0, 16), estimate) {
         Iv::point(0)
     } else {
-        word_difference(&estimate_word(estimate), &apriori_word(x0, 20))
+        interval_difference(&estimate_interval(estimate), &apriori_interval(x0, 20))
     }
 }
 

@@ -6,7 +6,7 @@ ghost use Rattle.bounds_report.specs.Rows.{row_count};
 
 use crate::PrintError;
 use crate::rows::Rows;
-use crate::terms::{estimate, high_term, low_term, printed_word};
+use crate::terms::{estimate, high_term, low_term, printed_interval};
 use std::alloc::Global;
 
 /// The greatest size of a printed bound.
@@ -43,10 +43,10 @@ fn row_ends(rows: &Rows, i: usize) -> Option<Ends>
 {
     let low = low_term(rows, i)?;
     let high = high_term(rows, i)?;
-    let word = printed_word(rows, i);
+    let interval = printed_interval(rows, i);
     limited(Ends {
-        lower: word.lo() + low,
-        upper: word.hi() + high,
+        lower: interval.lo() + low,
+        upper: interval.hi() + high,
         estimate: estimate(rows, i),
     })
 }

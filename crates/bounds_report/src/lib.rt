@@ -6,13 +6,13 @@ use thiserror::Error;
 
 mod differences;
 mod ends;
+mod intervals;
 mod numbers;
 mod printing;
 mod residuals;
 mod rounding;
 mod rows;
 mod terms;
-mod words;
 
 pub use numbers::Printed;
 pub use printing::printed;

@@ -2,12 +2,12 @@
 
 ghost use Rattle.std.specs.Prelude.{◌≡◌, ◌≤◌, ◌<◌, ◌*◌, ◌^◌};
 ghost use Rattle.whole_numbers.specs.Intervals.{size, interval_mul};
-ghost use Rattle.sym_blocks.specs.Tables.{word};
+ghost use Rattle.sym_blocks.specs.Tables.{entry_at};
 ghost use Rattle.equil.specs.Tables.{table_of};
-ghost use Rattle.bounds_report.specs.Differences.{word_at};
+ghost use Rattle.bounds_report.specs.Differences.{nth_entry};
 ghost use Rattle.bounds_report.specs.Residuals.{AreSmallIntervals, row_sum, residual_size};
 
-use crate::words::{word_difference, word_product};
+use crate::intervals::{interval_difference, interval_product};
 use equil::Working;
 use interval_word::Iv;
 
@@ -16,10 +16,10 @@ fn term<const N: usize>(w: &Working<N>, zs: &[Iv], i: usize, j: usize) -> Iv
     requires differences { AreSmallIntervals w.now.a.size zs.now }
     requires row { i < w.now.a.size }
     requires column { j < w.now.a.size }
-    ensures value { result ≡ interval_mul (word w.now.a i j) (word_at zs.now j) }
-    ensures bound { size result ≤ 2 ^ 61 * size (word_at zs.now j) }
+    ensures value { result ≡ interval_mul (entry_at w.now.a i j) (nth_entry zs.now j) }
+    ensures bound { size result ≤ 2 ^ 61 * size (nth_entry zs.now j) }
 {
-    word_product(&w.a.get(i, j), &zs[j])
+    interval_product(&w.a.get(i, j), &zs[j])
 }
 
 /// What the differences make of a row of the table.
@@ -42,5 +42,5 @@ pub fn residual<const N: usize>(w: &Working<N>, zs: &[Iv], i: usize) -> u128
     requires row { i < w.now.a.size }
     ensures { result ≡ residual_size w.now.a.size (table_of w.now.a w.now.d.items) zs.now i }
 {
-    word_difference(&w.d[i], &row_sum(w, zs, i)).mag()
+    interval_difference(&w.d[i], &row_sum(w, zs, i)).mag()
 }

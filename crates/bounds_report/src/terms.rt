@@ -16,8 +16,8 @@ use interval_word::Iv;
 use whole_numbers::{scale_ceil, scale_floor};
 
 /// The interval of a decimal at the scale 10^k, and None exactly where an end passes 10^37 in size.
-#[tactic(auto, using(crate::proofs::TermLaws::word_rules))]
-fn word_at(d: &Dec, k: i32) -> Option<Iv>
+#[tactic(auto, using(crate::proofs::TermLaws::interval_rules))]
+fn interval_at(d: &Dec, k: i32) -> Option<Iv>
     requires low { pos 0 ≤ℤ k }
     requires high { k ≤ℤ pos 20 }
     ensures { SomeIff result (size (decimal_interval d.now k) ≤ 10 ^ 37) (decimal_interval d.now k) }
@@ -28,27 +28,27 @@ fn word_at(d: &Dec, k: i32) -> Option<Iv>
 }
 
 /// The interval of an a priori value at the scale 10^k.
-#[tactic(auto, using(crate::proofs::TermLaws::word_rules))]
-pub fn apriori_word(x0: &Dec, k: i32) -> Iv
+#[tactic(auto, using(crate::proofs::TermLaws::interval_rules))]
+pub fn apriori_interval(x0: &Dec, k: i32) -> Iv
     requires most { IsAtMost (10 ^ 12) x0.now }
     requires low { pos 0 ≤ℤ k }
     requires high { k ≤ℤ pos 20 }
     ensures value { result ≡ decimal_interval x0.now k }
     ensures bound { size result ≤ 10 ^ 32 }
 {
-    match word_at(x0, k) {
+    match interval_at(x0, k) {
         Some(w) => w,
         None => unreachable!(),
     }
 }
 
 /// The interval of a row's a priori value in units of 10^-16.
-pub fn printed_word(rows: &Rows, i: usize) -> Iv
+pub fn printed_interval(rows: &Rows, i: usize) -> Iv
     requires { i < row_count rows.now }
     ensures value { result ≡ decimal_interval (apriori_at rows.now i) (pos 16) }
     ensures bound { size result ≤ 10 ^ 32 }
 {
-    apriori_word(&rows.apriori(i), 16)
+    apriori_interval(&rows.apriori(i), 16)
 }
 
 /// The power of ten from the working unit of a row to the printed one.
@@ -111,7 +111,7 @@ fn middle(rows: &Rows, i: usize) -> i128
     ensures value { result ≡ (decimal_interval (apriori_at rows.now i) (pos 16)).lo +ℤ floor_scaled (vector_at rows.now i) (pos 4 -ℤ power_at rows.now i) }
     ensures bound { unsigned_abs result ≤ 10 ^ 37 }
 {
-    printed_word(rows, i).lo() + middle_term(rows, i)
+    printed_interval(rows, i).lo() + middle_term(rows, i)
 }
 
 /// The estimate of a row: its a priori value and its start vector, rounded to 15 digits.

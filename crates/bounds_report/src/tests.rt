@@ -269,7 +269,7 @@ fn enclosed(alloc: Global, pair: &Pair) -> Option<Enclosed>
     ensures { IfSome result (λ e. e.pilot.size ≡ 2) }
 {
     let [first, second] = pair.rows;
-    let pilot = Pilot::from_words(0, 2, [0, 0, 0, 0].to_vec(alloc).ok()?)?;
+    let pilot = Pilot::from_entries(0, 2, [0, 0, 0, 0].to_vec(alloc).ok()?)?;
     let y = two_numbers(alloc, first.start, second.start)?;
     let w = [first.radius.min(1 << 97), second.radius.min(1 << 97)]
         .to_vec(alloc)

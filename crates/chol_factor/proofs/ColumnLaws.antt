@@ -89,14 +89,14 @@ column_more m f g i j a r v lower row p at_a at_r bounded quotient s =
     let is = quotient ∙ equal_fixed_quotients a (left_of m (square_at f) i j) r (square_at f j j) at_a (sym at_r) in
     let same = agree_self (i + 1) f g i j v (omega arith) s in
     let left = λ (k : ℕ) (h : j ≤ k) (l : k < i + 1). left_alone (i + 1) m (square_at f) (square_at g) k j same h l in
-    let word = λ (k : ℕ) (l : k < i). sym (s.others k j (omega arith) (omega arith) (λ e. let q = e.0 in absurd (omega arith))) in
-    let diagonal = word j lower in
+    let entry = λ (k : ℕ) (l : k < i). sym (s.others k j (omega arith) (omega arith) (λ e. let q = e.0 in absurd (omega arith))) in
+    let diagonal = entry j lower in
     let here : square_at g i j ≡ fixed_quotient (left_of m (square_at g) i j) (square_at g j j) = s.here ∙ is ∙ equal_fixed_quotients _ _ _ _ (left i (omega arith) (omega arith)) diagonal in
     record {
       pivot = subst (λ a. pos 1 ≤ℤ a) (left j (omega arith) (omega arith)) p.pivot;
       root = subst (IsRoot (left_of m (square_at g) j j)) diagonal (subst (λ a. IsRoot a (square_at f j j)) (left j (omega arith) (omega arith)) p.root);
       below = λ k h l. elim (last_or_before k i l) [
-        | inl q ↦ sym (word k q) ∙ p.below k h q ∙ equal_fixed_quotients _ _ _ _ (left k (omega arith) l) diagonal
+        | inl q ↦ sym (entry k q) ∙ p.below k h q ∙ equal_fixed_quotients _ _ _ _ (left k (omega arith) l) diagonal
         | inr q ↦ subst (λ x. square_at g x j ≡ fixed_quotient (left_of m (square_at g) x j) (square_at g j j)) (sym q) here
       ];
       left_fits = λ k h l. elim (last_or_before k i l) [
@@ -104,7 +104,7 @@ column_more m f g i j a r v lower row p at_a at_r bounded quotient s =
         | inr q ↦ subst (λ a. unsigned_abs a ≤ 2 ^ 61) (left k h l) (subst (λ x. unsigned_abs (left_of m (square_at f) x j) ≤ 2 ^ 61) (sym q) b.left_fits)
       ];
       fits = λ k h l. elim (last_or_before k i l) [
-        | inl q ↦ subst (λ a. unsigned_abs a ≤ 2 ^ 61) (word k q) (p.fits k h q)
+        | inl q ↦ subst (λ a. unsigned_abs a ≤ 2 ^ 61) (entry k q) (p.fits k h q)
         | inr q ↦ subst (λ x. unsigned_abs (square_at g x j) ≤ 2 ^ 61) (sym q) (subst (λ a. unsigned_abs a ≤ 2 ^ 61) (sym (s.here ∙ is)) b.fits)
       ];
     }
@@ -136,10 +136,10 @@ stuck_below n m o f i j a r lower row kept made at_a at_r none g same p =
     let left = left_alone n m f g i j agree (omega arith) row in
     let left_j = left_alone n m f g j j agree (omega arith) (omega arith) in
     let root = root_alone (left_of m g j j) (f j j) (g j j) (subst (λ a. IsRoot a (f j j)) left_j made.root) p.root in
-    let word = equal_fixed_quotients _ _ _ _ left root ∙ sym (p.below i lower row) in
+    let entry = equal_fixed_quotients _ _ _ _ left root ∙ sym (p.below i lower row) in
     none (bounded_same _ a _ r (sym at_a) at_r (record {
       left_fits = subst (λ x. unsigned_abs x ≤ 2 ^ 61) (sym left) (p.left_fits i (omega arith) row);
-      fits = subst (λ x. unsigned_abs x ≤ 2 ^ 61) (sym word) (p.fits i (omega arith) row);
+      fits = subst (λ x. unsigned_abs x ≤ 2 ^ 61) (sym entry) (p.fits i (omega arith) row);
     }))
 
 -- ---- column by column
@@ -147,13 +147,13 @@ column_kept : (n : ℕ) (m f g : ℕ → ℕ → ℤ) (j : ℕ) → j < n → Ag
 column_kept n m f g j row same p =
     let before : AgreeBefore n f g j = λ a b h l r. same a b (omega arith) l r in
     let left = λ (i : ℕ) (h : j ≤ i) (l : i < n). left_alone n m f g i j before h l in
-    let word = λ (i : ℕ) (h : j ≤ i) (l : i < n). same i j (omega arith) h l in
+    let entry = λ (i : ℕ) (h : j ≤ i) (l : i < n). same i j (omega arith) h l in
     record {
       pivot = subst (λ a. pos 1 ≤ℤ a) (left j (omega arith) row) p.pivot;
-      root = subst (IsRoot (left_of m g j j)) (word j (omega arith) row) (subst (λ a. IsRoot a (f j j)) (left j (omega arith) row) p.root);
-      below = λ i h l. sym (word i (omega arith) l) ∙ p.below i h l ∙ equal_fixed_quotients _ _ _ _ (left i (omega arith) l) (word j (omega arith) row);
+      root = subst (IsRoot (left_of m g j j)) (entry j (omega arith) row) (subst (λ a. IsRoot a (f j j)) (left j (omega arith) row) p.root);
+      below = λ i h l. sym (entry i (omega arith) l) ∙ p.below i h l ∙ equal_fixed_quotients _ _ _ _ (left i (omega arith) l) (entry j (omega arith) row);
       left_fits = λ i h l. subst (λ a. unsigned_abs a ≤ 2 ^ 61) (left i h l) (p.left_fits i h l);
-      fits = λ i h l. subst (λ a. unsigned_abs a ≤ 2 ^ 61) (word i h l) (p.fits i h l);
+      fits = λ i h l. subst (λ a. unsigned_abs a ≤ 2 ^ 61) (entry i h l) (p.fits i h l);
     }
 
 pub columns_more : (n : ℕ) (m f g : ℕ → ℕ → ℤ) (j : ℕ) → j < n → HasColumns n m f j → AgreeBefore n f g j → IsColumn n m g j → HasColumns n m g (j + 1)

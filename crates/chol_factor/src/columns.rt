@@ -60,11 +60,11 @@ fn quotient(t: i128, root: i64) -> Option<i64>
     if t.unsigned_abs() > LIMIT {
         return None;
     }
-    let word = fixed_quotient(t, root);
-    if word.unsigned_abs() > LIMIT {
+    let entry = fixed_quotient(t, root);
+    if entry.unsigned_abs() > LIMIT {
         return None;
     }
-    Some(word as i64)
+    Some(entry as i64)
 }
 
 /// Makes column `j` from the table's numbers that stand in it, after the columns before it, and answers whether there is one.
@@ -85,10 +85,10 @@ fn make_column(f: &mut Square, j: usize) -> bool
     };
     f.set(j, j, root);
     for i in j + 1..size {
-        let Some(word) = quotient(left(f, i, j), root) else {
+        let Some(entry) = quotient(left(f, i, j), root) else {
             return false;
         };
-        f.set(i, j, word);
+        f.set(i, j, entry);
     }
     true
 }

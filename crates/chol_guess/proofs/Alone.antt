@@ -10,7 +10,7 @@ use Rattle.chol_factor.specs.Factor.{fixed_product, fixed_quotient, HasColumns, 
 use Rattle.chol_factor.proofs.Alone.{equal_fixed_products, equal_fixed_quotients, factor_alone, no_pivot_below}
 use Rattle.chol_guess.specs.Columns.{forward_left, back_left, IsForwardSolution, IsBackSolution, IsInverseColumn, StayInBounds}
 use Rattle.chol_guess.specs.Pilots.{IsPilot, IsCondition, nearest}
-use Rattle.enclosures.specs.Pilots.{PilotTable, pilot_word}
+use Rattle.enclosures.specs.Pilots.{PilotTable, pilot_entry}
 use Rattle.chol_guess.specs.Rows.{QuotientFits, IsBackFrom}
 
 -- two tables have the same numbers up to the diagonal, in the rows below n
@@ -173,8 +173,8 @@ pub pilot_alone : (n : ℕ) (m : ℕ → ℕ → ℤ) (p q : PilotTable) → IsP
 pilot_alone n m p q a b = let low = no_greater n m p q a b in let high = no_greater n m q p b a in omega arith
 
 -- and equal numbers
-pub pilot_words_alone : (n : ℕ) (m : ℕ → ℕ → ℤ) (p q : PilotTable) → IsPilot n m p → IsPilot n m q → (i c : ℕ) → i < n → c < n → pilot_word p i c ≡ pilot_word q i c
-pilot_words_alone n m p q a b i c row column =
+pub pilot_entries_alone : (n : ℕ) (m : ℕ → ℕ → ℤ) (p q : PilotTable) → IsPilot n m p → IsPilot n m q → (i c : ℕ) → i < n → c < n → pilot_entry p i c ≡ pilot_entry q i c
+pilot_entries_alone n m p q a b i c row column =
     let x = a.columns c column in
     let y = b.columns c column in
     let moved = column_same n a.f b.f p.g c x.0 (factors_same n m a.f b.f a.factor b.factor) x.1.0 in

@@ -9,7 +9,7 @@ use Rattle.chol_factor.specs.declared.FactorError.{FactorError}
 use Rattle.chol_factor.specs.declared.FactorError.TheVariants as factor
 use Rattle.chol_guess.specs.Made.{IsPilotOf, IsRefusedOf}
 use Rattle.chol_guess.specs.Pilots.{IsPilot, IsCondition, nearest}
-use Rattle.enclosures.specs.Pilots.{PilotTable, pilot_word}
+use Rattle.enclosures.specs.Pilots.{PilotTable, pilot_entry}
 use Rattle.chol_guess.specs.Columns.{IsInverseColumn}
 use Rattle.chol_guess.specs.Midpoints.{midpoints, HasRows}
 use Rattle.chol_guess.specs.Refusals.{IsRefused, of_factor}
@@ -18,7 +18,7 @@ use Rattle.chol_guess.specs.Rows.{IsGreatestScale, IsFailure, PlacesColumns}
 use Rattle.chol_guess.specs.declared.PilotError.{PilotError}
 use Rattle.chol_guess.specs.declared.PilotError.TheVariants.{Pivot, Condition, Memory}
 
-pub pilot_made : (n : ℕ) (f : ℕ → ℕ → ℤ) (p : PilotTable) (g m : ℕ) (ws : List ℤ) (r : SquareTable) → p ≡ record { g = g; size = m; words = ws } → m ≡ n → r.size ≡ n → ws ≡ r.numbers → IsGreatestScale n f g r → IsPilotOf n f p
+pub pilot_made : (n : ℕ) (f : ℕ → ℕ → ℤ) (p : PilotTable) (g m : ℕ) (ws : List ℤ) (r : SquareTable) → p ≡ record { g = g; size = m; entries = ws } → m ≡ n → r.size ≡ n → ws ≡ r.numbers → IsGreatestScale n f g r → IsPilotOf n f p
 pilot_made n f p g m ws r is size room same best = subst (IsPilotOf n f) (sym is) (record {
   size = size;
   scale = best.scale;
@@ -27,7 +27,7 @@ pilot_made n f p g m ws r is size room same best = subst (IsPilotOf n f) (sym is
 })
 
 -- ---- of a factor, and of the table that it is one of
-columns_of_factor : (n : ℕ) (f : ℕ → ℕ → ℤ) (p : PilotTable) → IsPilotOf n f p → (c : ℕ) → c < n → (x : ℕ → ℤ) × (IsInverseColumn n f p.g c x × ((i : ℕ) → i < n → pilot_word p i c ≡ nearest (x i)))
+columns_of_factor : (n : ℕ) (f : ℕ → ℕ → ℤ) (p : PilotTable) → IsPilotOf n f p → (c : ℕ) → c < n → (x : ℕ → ℤ) × (IsInverseColumn n f p.g c x × ((i : ℕ) → i < n → pilot_entry p i c ≡ nearest (x i)))
 columns_of_factor n f p made c h =
     let placed = made.columns c h in
     (placed.0, (placed.1.0, λ i row. placed.1.1 i row))

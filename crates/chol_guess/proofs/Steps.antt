@@ -53,23 +53,23 @@ slice_len xs a m le = simp (length-take, length-drop) (omega arith)
 pub earlier_is : (n i : ℕ) (f : ℕ → ℕ → ℤ) (g c : ℕ) (us row : List ℤ) (s : ℤ) → IsForwardBefore n i f g c us → length row ≡ n → ((k : ℕ) → k < n → at row k ≡ f i k)
     → s ≡ sum_to (length (take (i - c) (drop c row))) (λ k. fixed_product (at (take (i - c) (drop c row)) k) (at (take (i - c) (drop c us)) k))
     → s ≡ sum_to i (λ k. fixed_product (f i k) (at us k))
-earlier_is n i f g c us row s up len words is =
+earlier_is n i f g c us row s up len entries is =
     is
     ∙ ap (λ m. sum_to m (λ k. fixed_product (at (take (i - c) (drop c row)) k) (at (take (i - c) (drop c us)) k))) (slice_len row c (i - c) (let r = up.row in let l = up.column in omega arith))
     ∙ sum_to_same (i - c) (λ k. fixed_product (at (take (i - c) (drop c row)) k) (at (take (i - c) (drop c us)) k)) (λ k. fixed_product (f i (c + k)) (at us (c + k)))
-    (λ k l. equal_fixed_products _ _ _ _ (at_take_drop row c (i - c) k l ∙ words (c + k) (let r = up.row in omega arith)) (at_take_drop us c (i - c) k l))
+    (λ k l. equal_fixed_products _ _ _ _ (at_take_drop row c (i - c) k l ∙ entries (c + k) (let r = up.row in omega arith)) (at_take_drop us c (i - c) k l))
     ∙ sym (sum_to_from c i (λ k. fixed_product (f i k) (at us k)) up.column (λ k l. part_zero (f i k) (at us k) (up_zero i f g c (at us) up.column up.before k l)))
 
 pub later_is : (n i : ℕ) (f : ℕ → ℕ → ℤ) (row xs : List ℤ) (s : ℤ) (b m : ℕ) → length row ≡ n → ((k : ℕ) → k < n → at row k ≡ f k i) → i < n → b ≡ suc i → m ≡ n - suc i
     → s ≡ sum_to (length (take m (drop b row))) (λ k. fixed_product (at (take m (drop b row)) k) (at (take m (drop b xs)) k))
     → s ≡ sum_past n i (λ k. fixed_product (f k i) (at xs k))
-later_is n i f row xs s b m len words inside start count is =
+later_is n i f row xs s b m len entries inside start count is =
     is
     ∙ ap (λ l. sum_to l (λ k. fixed_product (at (take m (drop b row)) k) (at (take m (drop b xs)) k))) (slice_len row b m (omega arith) ∙ count)
     ∙ sum_to_same (n - suc i) (λ k. fixed_product (at (take m (drop b row)) k) (at (take m (drop b xs)) k)) (λ d. fixed_product (f (suc i + d) i) (at xs (suc i + d)))
     (λ d l.
     let past : b + d ≡ suc i + d = omega arith in
-    equal_fixed_products _ _ _ _ (at_take_drop row b m d (omega arith) ∙ ap (at row) past ∙ words (suc i + d) (omega arith)) (at_take_drop xs b m d (omega arith) ∙ ap (at xs) past))
+    equal_fixed_products _ _ _ _ (at_take_drop row b m d (omega arith) ∙ ap (at row) past ∙ entries (suc i + d) (omega arith)) (at_take_drop xs b m d (omega arith) ∙ ap (at xs) past))
 
 -- ---- what is left
 pub left_here : (f : ℕ → ℕ → ℤ) (g c i : ℕ) (u : ℕ → ℤ) (s : ℤ) → i ≡ c → s ≡ sum_to i (λ k. fixed_product (f i k) (u k)) → forward_left f g c u i ≡ pos (2 ^ (g + 10)) -ℤ s

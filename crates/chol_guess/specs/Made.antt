@@ -9,7 +9,7 @@ use Rattle.chol_guess.specs.declared.PilotError.TheVariants.{Pivot, Condition, M
 pub record IsPilotOf (n : ℕ) (f : ℕ → ℕ → ℤ) (p : PilotTable) : Type 0 where
   pub size : p.size ≡ n
   pub scale : IsPilotScale p.g
-  pub columns : PlacesColumns n f p.g (record { size = p.size; numbers = p.words }) n
+  pub columns : PlacesColumns n f p.g (record { size = p.size; numbers = p.entries }) n
   pub greatest : FailAbove n f p.g
 
 -- what a refusal says of the factor: a factor has each pivot, and nothing is said where memory is wanting

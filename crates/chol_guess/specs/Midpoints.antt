@@ -2,11 +2,11 @@
 use Rattle.std.specs.Prelude.{◌≡◌, ◌<◌, ℕ, ℤ}
 use Rattle.whole_numbers.specs.Intervals.{midpoint}
 use Rattle.whole_numbers.specs.Squares.{SquareTable, square_at}
-use Rattle.sym_blocks.specs.Tables.{SymTable, word}
+use Rattle.sym_blocks.specs.Tables.{SymTable, entry_at}
 
 -- the midpoint of the interval (i, j)
 abbrev pub midpoints : SymTable → ℕ → ℕ → ℤ
-midpoints a i j = midpoint (word a i j)
+midpoints a i j = midpoint (entry_at a i j)
 
 -- the first m rows of the square are the midpoints of the table
 abbrev pub HasRows : ℕ → SymTable → SquareTable → Type 0

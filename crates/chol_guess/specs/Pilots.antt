@@ -3,7 +3,7 @@
 -- are this program's own.
 use Rattle.std.specs.Prelude.{◌≡◌, ◌<◌, ℕ, suc, ℤ, pos, ◌+ℤ◌}
 use Rattle.whole_numbers.specs.Quotients.{floor_over}
-use Rattle.enclosures.specs.Pilots.{IsPilotScale, PilotTable, pilot_word}
+use Rattle.enclosures.specs.Pilots.{IsPilotScale, PilotTable, pilot_entry}
 use Rattle.chol_factor.specs.Factor.{HasColumns}
 use Rattle.chol_guess.specs.Columns.{IsInverseColumn, StayInBounds}
 
@@ -17,7 +17,7 @@ pub record IsPilot (n : ℕ) (m : ℕ → ℕ → ℤ) (p : PilotTable) : Type 0
   pub scale : IsPilotScale p.g
   pub f : ℕ → ℕ → ℤ
   pub factor : HasColumns n m f n
-  pub columns : (c : ℕ) → c < n → (x : ℕ → ℤ) × (IsInverseColumn n f p.g c x × ((i : ℕ) → i < n → pilot_word p i c ≡ nearest (x i)))
+  pub columns : (c : ℕ) → c < n → (x : ℕ → ℤ) × (IsInverseColumn n f p.g c x × ((i : ℕ) → i < n → pilot_entry p i c ≡ nearest (x i)))
   pub greatest : (g : ℕ) → IsPilotScale g → p.g < g → ¬ (StayInBounds n f g n)
 
 -- m has a factor, at no scale do all columns stay in bounds, and column c is the first that fails at the scale 0

@@ -21,7 +21,7 @@ use whole_numbers::Square;
 /// bounds. Condition comes exactly where there is no such scale, with the first column that fails at the least one.
 pub fn pilot_of(alloc: Global, f: &Factor) -> Result<Pilot, PilotError>
     ensures value { IfOk result (IsPilotOf f.now.size (square_at f.now)) }
-    ensures square { IfOk result (λ p. length p.words ≡ p.size * p.size) }
+    ensures square { IfOk result (λ p. length p.entries ≡ p.size * p.size) }
     ensures refused { IfErr result (IsRefusedOf f.now.size (square_at f.now)) }
 {
     let n = f.size();
@@ -47,7 +47,7 @@ pub fn pilot<R: Threads + Sync, const N: usize>(
     requires some_workers { 1 ≤ _workers }
     requires few_workers { _workers ≤ 16 }
     ensures value { IfOk result (IsPilot w.now.a.size (midpoints w.now.a)) }
-    ensures square { IfOk result (λ p. length p.words ≡ p.size * p.size) }
+    ensures square { IfOk result (λ p. length p.entries ≡ p.size * p.size) }
     ensures refused { IfErr result (IsRefused w.now.a.size (midpoints w.now.a)) }
 {
     let midpoints = midpoint_square(alloc, w)?;

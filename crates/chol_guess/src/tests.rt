@@ -2,7 +2,7 @@
 
 ghost use Rattle.std.specs.Prelude.{◌≡◌, ◌≤◌, ◌<◌, ◌^◌, ℕ, unsigned_abs, IfOk};
 ghost use Rattle.whole_numbers.specs.Intervals.{size};
-ghost use Rattle.sym_blocks.specs.Tables.{word};
+ghost use Rattle.sym_blocks.specs.Tables.{entry_at};
 
 use crate::{PilotError, pilot};
 use equil::Working;
@@ -23,9 +23,9 @@ fn cut(v: i128) -> i128
 fn put<const N: usize>(a: &mut SymBlock<N>, i: usize, j: usize, v: i128)
     requires row { i < a.old.size }
     requires column { j < a.old.size }
-    requires small { (k l : ℕ) → k < a.old.size → l < a.old.size → size (word a.old k l) ≤ 2 ^ 61 }
+    requires small { (k l : ℕ) → k < a.old.size → l < a.old.size → size (entry_at a.old k l) ≤ 2 ^ 61 }
     ensures size { a.new.size ≡ a.old.size }
-    ensures small { (k l : ℕ) → k < a.new.size → l < a.new.size → size (word a.new k l) ≤ 2 ^ 61 }
+    ensures small { (k l : ℕ) → k < a.new.size → l < a.new.size → size (entry_at a.new k l) ≤ 2 ^ 61 }
 {
     a.set(i, j, Iv::point(cut(v)));
 }
@@ -38,7 +38,7 @@ fn table<const N: usize>(
     second: Option<i128>,
 ) -> Result<SymBlock<N>, AllocError>
     ensures few { IfOk result (λ a. a.size ≤ 2) }
-    ensures small { IfOk result (λ a. (k l : ℕ) → k < a.size → l < a.size → size (word a k l) ≤ 2 ^ 61) }
+    ensures small { IfOk result (λ a. (k l : ℕ) → k < a.size → l < a.size → size (entry_at a k l) ≤ 2 ^ 61) }
 {
     match second {
         None => {
@@ -59,7 +59,7 @@ fn table<const N: usize>(
 // The working table with those intervals, a right side of zeros and exponents of 0.
 fn working<const N: usize>(alloc: Global, a: SymBlock<N>) -> Result<Working<N>, AllocError>
     requires few { a.size ≤ 2 }
-    requires small { (k l : ℕ) → k < a.size → l < a.size → size (word a k l) ≤ 2 ^ 61 }
+    requires small { (k l : ℕ) → k < a.size → l < a.size → size (entry_at a k l) ≤ 2 ^ 61 }
 {
     let n = a.size();
     let d = vec![in alloc; Iv::point(0); n]?;
@@ -77,12 +77,12 @@ fn answer<const N: usize, R: Threads + Sync>(
 ) -> Result<(u32, Option<i64>), PilotError> {
     let w = working::<N>(alloc, table(alloc, first, below, second)?)?;
     let p = pilot(rt, alloc, &w, 16)?;
-    let word = if p.size() > 0 {
-        Some(p.word(0, 0))
+    let entry = if p.size() > 0 {
+        Some(p.entry(0, 0))
     } else {
         None
     };
-    Ok((p.g(), word))
+    Ok((p.g(), entry))
 }
 
 // The last number is a third of 2^42, and the one before it 2^110 over 1024 * 4 * 10^16.

@@ -1,5 +1,5 @@
 -- The datum, up to the first key that is refused.
-use Rattle.std.proofs.Common.{List, [], Option, Some, None, Result, Ok, Err, Vec, Global, codes, refl, option_map}
+use Rattle.std.proofs.Common.{Option, Some, Result, Ok, Err, Vec, Global, codes, refl, option_map}
 use Rattle.toml.specs.Data.{Members, get_member}
 use Rattle.decimal_e.specs.Decimals.{Decimal}
 use Rattle.control_doc.specs.Control.{Is, IsSigma, IsDatumIn, sites_in, with_sigma}

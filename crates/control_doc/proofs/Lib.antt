@@ -9,3 +9,4 @@ mod DatumSteps
 mod WholeSteps
 mod Fives
 mod TextSteps
+mod Validity

@@ -1,15 +1,14 @@
 -- A control file says one control at most, or has one first fault.
-use Rattle.std.proofs.Common.{◌≡◌, ◌∙◌, ◌∷◌, ℕ, List, [], Bool, true, false, Option, Some, None, Result, Ok, Err, sym, ap, refl}
+use Rattle.std.proofs.Common.{◌≡◌, ◌∙◌, ℕ, List, [], Bool, true, false, Option, Some, None, Result, Ok, Err, sym, ap}
 use Rattle.stated_order.specs.Steps.{IsOne}
 use Rattle.stated_order.proofs.StepLaws.{then_is_one, in_turn_is_one}
 use Rattle.toml.specs.Data.{Data, Members}
 use Rattle.decimal_e.specs.Decimals.{Decimal}
 use Rattle.decimal_e.specs.declared.read.DecFault.{DecFault}
 use Rattle.decimal_e.proofs.Outcomes.{one_answer_of}
-use Rattle.control_doc.specs.Faults.{PlainFault}
 use Rattle.control_doc.specs.Plain.{PlainPlan}
-use Rattle.control_doc.specs.Tables.{Entry, entries}
-use Rattle.control_doc.specs.Control.{Is, IsDecimalIn, IsDecimalAt, IsWeight, IsSigma, IsPlan, ArePlans, IsDatumIn, IsDatum, AreReductions, reduction_in, IsControlOf, IsControl, OneControl, is_positive_and_short}
+use Rattle.control_doc.specs.Tables.{Entry}
+use Rattle.control_doc.specs.Control.{Is, IsDecimalIn, IsDecimalAt, IsWeight, IsSigma, IsPlan, IsDatumIn, IsDatum, reduction_in, IsControlOf, OneControl, is_positive_and_short}
 
 is_one : {X : Type 0} (answer : X) → IsOne (Is answer)
 is_one answer r s a b = a ∙ sym b
@@ -46,7 +45,7 @@ plan_is_one before entry =
     then_is_one _ _ (is_one _) (λ constraints has_held. is_one _)))))
 
 datum_in_is_one : (members : Members) → IsOne (IsDatumIn members)
-datum_in_is_one members =
+datum_in_is_one table =
     then_is_one _ _ (is_one _) (λ sites has_sites.
     then_is_one _ _ (sigma_is_one _ _) (λ translation has_translation.
     then_is_one _ _ (sigma_is_one _ _) (λ rotation has_rotation.

@@ -1,5 +1,5 @@
 -- Decimals that are positive and short.
-use Rattle.std.proofs.Common.{◌≡◌, ◌≢◌, ◌∙◌, ℕ, ℤ, pos, List, Bool, true, false, Option, Some, None, Result, Ok, Err, refl, sym, ap, subst, arith}
+use Rattle.std.proofs.Common.{◌≡◌, ◌∙◌, ℕ, List, false, Option, Some, None, Result, Ok, Err, refl, sym, ap, subst, arith}
 use Rattle.std.proofs.lemmas.Int.{ints}
 use Rattle.decimal_e.specs.Decimals.{Decimal, IsCanonicalOf, IsBounded}
 use Rattle.decimal_e.specs.Answers.{IsAnswer}

@@ -1,5 +1,5 @@
 -- Sites, list by list.
-use Rattle.std.proofs.Common.{◌≡◌, ◌++◌, ◌∷◌, List, [], ℕ, Option, Some, None, refl, ap, sym, append_assoc, append-nil}
+use Rattle.std.proofs.Common.{◌≡◌, ◌++◌, ◌∷◌, List, [], ℕ, Option, Some, None, refl, ap, sym, append_assoc}
 use Rattle.std.specs.Option.{option_and_then}
 use Rattle.control_doc.specs.Control.{site_of, sites_of}
 use Rattle.control_doc.specs.declared.plans.Site.{Site}

@@ -1,5 +1,5 @@
 -- The whole control, up to the first part that is refused.
-use Rattle.std.proofs.Common.{List, [], Option, Some, None, Result, Ok, Err, Vec, Global, map, refl, option_map}
+use Rattle.std.proofs.Common.{Option, Result, Ok, Err, Vec, Global, map, refl, option_map}
 use Rattle.toml.specs.Data.{Members}
 use Rattle.param_ids.specs.Tables.{ScaleMap}
 use Rattle.control_doc.specs.Control.{Is, IsControlOf, parts_in, output_in, run_in, ArePlans, IsDatum, AreReductions, scales_in, reference_in, known_from}

@@ -4,13 +4,13 @@
 -- The faults are tested in this order: the top table, then the tables output, run, each file, datum, each reduction, scale. In a
 -- table the least unknown key comes first, and then each key in the order in which it is written here: whether it is there, its
 -- kind, its value. What speaks of another table, the reference and what a reduction is of, is tested after all others.
-use Rattle.std.specs.Prelude.{◌≡◌, ◌≤◌, ◌<◌, ◌^◌, ◌++◌, ◌∷◌, ◌==◌, ◌≤ℤ◌, ℕ, suc, ℤ, pos, negsuc, nat_le, nat_lt, int_le, int_lt, Bool, true, false, ◌&&◌, ◌||◌, not, if◌then◌else◌, List, [], length, map, Option, Some, None, Result, Ok, Err, codes}
+use Rattle.std.specs.Prelude.{◌≡◌, ◌∷◌, ℕ, suc, ℤ, pos, negsuc, nat_le, int_le, int_lt, Bool, true, false, ◌&&◌, ◌||◌, not, if◌then◌else◌, List, [], length, Option, Some, None, Result, Ok, Err, codes}
 use Rattle.std.specs.List.{find, list_any}
 use Rattle.std.specs.Option.{option_and_then}
 use Rattle.std.specs.Str.{bytes_eq, is_utf8}
 use Rattle.std.specs.FinMap as finmap
 use Rattle.stated_order.specs.Steps.{IsOne, Then, InTurn}
-use Rattle.toml.specs.Data.{Data, string, integer, Members, no_members, get_member}
+use Rattle.toml.specs.Data.{Data, Members, no_members, get_member}
 use Rattle.toml.specs.Parse.{parse_document}
 use Rattle.decimal_e.specs.Decimals.{Decimal}
 use Rattle.decimal_e.specs.Answers.{IsAnswer}
@@ -21,7 +21,7 @@ use Rattle.param_ids.specs.Tables.{ScaleMap, standard_scales}
 use Rattle.blanks.specs.Blanks.{trimmed}
 use Rattle.snx_epoch.specs.declared.Epoch.{Epoch}
 use Rattle.control_doc.specs.Faults.{PlainFault, fault, or_fault, and_then, key_path, entry_path}
-use Rattle.control_doc.specs.Texts.{agency_text, file_text, group_text, header_text, letter, created_text, epoch_text_of_name, kind_of_name, code_of_name, point_of_name, soln_of_name, form_text, held_text, place_text, shown}
+use Rattle.control_doc.specs.Texts.{agency_text, file_text, group_text, header_text, letter, created_text, epoch_text_of_name, kind_of_name, code_of_name, point_of_name, soln_of_name, form_text, held_text, place_text}
 use Rattle.control_doc.specs.Tables.{keys_of, is_other, only_keys, there, if_there, text_at, integer_at, table_at, tables_at, texts_at, text_lists_at, needed, given_or, Entry, entries}
 use Rattle.control_doc.specs.Plain.{PlainPlan, PlainDatum, PlainReduction, PlainOutput, PlainRun, PlainControl}
 use Rattle.control_doc.specs.declared.faults.ControlCause.TheVariants as causes
@@ -273,8 +273,8 @@ with_scale members scales key =
 
 -- the standard exponents, and those of the table in the order of its keys
 abbrev pub scales_from : Members → ScaleMap → List (List ℕ) → Result ScaleMap PlainFault
-scales_from members scales [] = Ok scales
-scales_from members scales (key ∷ rest) = and_then (with_scale members scales key) (λ more. scales_from members more rest)
+scales_from table scales [] = Ok scales
+scales_from table scales (key ∷ rest) = and_then (with_scale table scales key) (λ more. scales_from table more rest)
 
 abbrev pub scales_in : Members → Result ScaleMap PlainFault
 scales_in members = and_then (scale_keys members) (λ known. scales_from members standard_scales (keys_of members))

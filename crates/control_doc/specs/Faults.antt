@@ -2,7 +2,6 @@
 use Rattle.std.specs.Prelude.{◌++◌, ℕ, List, Option, Some, None, Result, Ok, Err, codes}
 use Rattle.std.specs.Fmt.{decimal}
 use Rattle.control_doc.specs.declared.faults.ControlCause.{ControlCause}
-use Rattle.control_doc.specs.declared.faults.ControlCause.TheVariants as causes
 
 pub record PlainFault : Type 0 where
   pub cause : ControlCause

@@ -3,6 +3,7 @@ pub mod Texts
 pub mod Tables
 pub mod Plain
 pub mod Control
+pub mod Valid
 pub mod Views
 pub mod Pieces
 pub mod Single

@@ -1,5 +1,5 @@
 -- What stands at the keys of a table, by the kinds that TOML has.
-use Rattle.std.specs.Prelude.{◌+◌, ℕ, ℤ, Bool, not, List, [], ◌∷◌, Option, Some, None, Result, Ok, Err, codes}
+use Rattle.std.specs.Prelude.{◌+◌, ℕ, ℤ, Bool, not, List, [], ◌∷◌, Option, Some, None, Result, Ok}
 use Rattle.std.specs.List.{find, list_any}
 use Rattle.std.specs.Option.{option_and_then}
 use Rattle.std.specs.Str.{bytes_eq}

@@ -1,12 +1,12 @@
 -- What the texts of a control file may be.
-use Rattle.std.specs.Prelude.{◌≡◌, ℕ, Bool, ◌&&◌, nat_le, nat_lt, if◌then◌else◌, List, [], ◌∷◌, length, Option, Some, None, Result, Ok, Err, codes}
+use Rattle.std.specs.Prelude.{ℕ, Bool, ◌&&◌, nat_le, if◌then◌else◌, List, [], ◌∷◌, length, Option, Some, None, Result, Ok, Err, codes}
 use Rattle.std.specs.List.{list_all}
 use Rattle.std.specs.Str.{bytes_eq}
 use Rattle.blanks.specs.Blanks.{trimmed}
 use Rattle.snx_epoch.specs.Moments.{epoch_in}
 use Rattle.snx_epoch.specs.declared.Epoch.{Epoch}
 use Rattle.snx_epoch.specs.declared.EpochFault.{EpochFault}
-use Rattle.param_ids.specs.Texts.{is_plain, kind_text, code_text, point_text, soln_text, in_6}
+use Rattle.param_ids.specs.Texts.{is_plain, kind_text, code_text, point_text, soln_text}
 use Rattle.control_doc.specs.declared.plans.Form.{Form}
 use Rattle.control_doc.specs.declared.plans.Form.TheVariants as forms
 use Rattle.control_doc.specs.declared.plans.Held.{Held}

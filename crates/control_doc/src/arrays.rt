@@ -52,9 +52,10 @@ pub(crate) fn tables_in<'a>(
     let Some(items) = value.as_array() else {
         return Err(fault(alloc, ControlCause::Kind, path));
     };
-    match tables_of(alloc, items)? {
-        Some(tables) => Ok(tables),
-        None => Err(fault(alloc, ControlCause::Kind, path)),
+    match tables_of(alloc, items) {
+        Ok(Some(tables)) => Ok(tables),
+        Ok(None) => Err(fault(alloc, ControlCause::Kind, path)),
+        Err(_) => Err(ControlError::Memory),
     }
 }
 
@@ -80,9 +81,10 @@ pub(crate) fn texts_needed<'a>(
     let Some(value) = value_at(table, key) else {
         return Err(fault_at(alloc, ControlCause::Key, path, key));
     };
-    match texts_in(alloc, value)? {
-        Some(texts) => Ok(texts),
-        None => Err(fault_at(alloc, ControlCause::Kind, path, key)),
+    match texts_in(alloc, value) {
+        Ok(Some(texts)) => Ok(texts),
+        Ok(None) => Err(fault_at(alloc, ControlCause::Kind, path, key)),
+        Err(_) => Err(ControlError::Memory),
     }
 }
 
@@ -114,8 +116,9 @@ pub(crate) fn text_lists_at<'a>(
     let Some(items) = value.as_array() else {
         return Err(fault(alloc, ControlCause::Kind, path));
     };
-    match text_lists_of(alloc, items)? {
-        Some(lists) => Ok(lists),
-        None => Err(fault(alloc, ControlCause::Kind, path)),
+    match text_lists_of(alloc, items) {
+        Ok(Some(lists)) => Ok(lists),
+        Ok(None) => Err(fault(alloc, ControlCause::Kind, path)),
+        Err(_) => Err(ControlError::Memory),
     }
 }

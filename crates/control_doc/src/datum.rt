@@ -101,16 +101,19 @@ fn site_texts<'a>(alloc: Global, table: &'a Table) -> Result<Vec<Vec<&'a str>>, 
     let Some(value) = value_at(table, "sites") else {
         return Err(fault(alloc, ControlCause::Key, "datum.sites"));
     };
-    let lists = text_lists_at(alloc, "datum.sites", value)?;
-    counted(alloc, lists)
+    match text_lists_at(alloc, "datum.sites", value) {
+        Ok(lists) => counted(alloc, lists),
+        Err(error) => Err(error),
+    }
 }
 
 fn sites_named(alloc: Global, lists: &[Vec<&str>]) -> Result<Vec<Site>, ControlError>
     ensures { Answers (λ sites. sites.items) (spec.Is (or_fault causes.Value spec.sites_path (spec.sites_of (map (λ texts. map (λ text. text.now) texts.items) lists.now)))) result }
 {
-    match sites_of(alloc, lists)? {
-        Some(sites) => Ok(sites),
-        None => Err(fault(alloc, ControlCause::Value, "datum.sites")),
+    match sites_of(alloc, lists) {
+        Ok(Some(sites)) => Ok(sites),
+        Ok(None) => Err(fault(alloc, ControlCause::Value, "datum.sites")),
+        Err(_) => Err(ControlError::Memory),
     }
 }
 

@@ -15,7 +15,7 @@ ghost use Rattle.control_doc.specs.declared.plans.Held.TheVariants as held;
 
 use crate::decimals::weight;
 use crate::faults::{ControlCause, ControlError};
-use crate::keys::{entry_path, fault_at, only_keys, text_given, text_needed};
+use crate::keys::{entry_path, fault_at, only_keys, owned, text_given, text_needed};
 use crate::plans::{FilePlan, Form, Held};
 use crate::texts::{form_text, held_text, is_shown_in};
 use std::alloc::Global;
@@ -58,7 +58,7 @@ fn new_name(
     if is_listed(before, name) {
         return Err(fault_at(alloc, ControlCause::Repeated, path, "name"));
     }
-    Ok(String::from_str(alloc, name)?)
+    owned(alloc, name)
 }
 
 /// The keys of the table.
@@ -72,8 +72,8 @@ fn file_name(
 ) -> Result<String, ControlError>
     ensures { Answers (λ name. string_bytes name) (spec.Is (spec.file_name (map plan_view before.now) (record { path = path.now; members = table_view table.now }))) result }
 {
-    only_keys(alloc, path, &KEYS, table)?;
-    let name = text_needed(alloc, path, table, "name")?;
+    value!(only_keys(alloc, path, &KEYS, table));
+    let name = value!(text_needed(alloc, path, table, "name"));
     if !is_shown_in(1, 60, name.as_bytes()) {
         return Err(fault_at(alloc, ControlCause::Value, path, "name"));
     }
@@ -83,36 +83,42 @@ fn file_name(
 fn group(alloc: Global, path: &str, table: &Table) -> Result<String, ControlError>
     ensures { Answers (λ text. string_bytes text) (spec.Is (given_or [] group_text path.now (codes "group") (table_view table.now))) result }
 {
-    let Some(text) = text_given(alloc, path, table, "group")? else {
-        return Ok(String::new(alloc));
-    };
-    if !is_shown_in(1, 8, text.as_bytes()) {
-        return Err(fault_at(alloc, ControlCause::Value, path, "group"));
+    match text_given(alloc, path, table, "group") {
+        Ok(Some(text)) => {
+            if is_shown_in(1, 8, text.as_bytes()) {
+                owned(alloc, text)
+            } else {
+                Err(fault_at(alloc, ControlCause::Value, path, "group"))
+            }
+        }
+        Ok(None) => Ok(String::new(alloc)),
+        Err(error) => Err(error),
     }
-    Ok(String::from_str(alloc, text)?)
 }
 
 fn form(alloc: Global, path: &str, table: &Table) -> Result<Form, ControlError>
     ensures { Answers (λ form. form) (spec.Is (given_or forms.Auto form_text path.now (codes "form") (table_view table.now))) result }
 {
-    let Some(text) = text_given(alloc, path, table, "form")? else {
-        return Ok(Form::Auto);
-    };
-    match form_text(text) {
-        Some(form) => Ok(form),
-        None => Err(fault_at(alloc, ControlCause::Value, path, "form")),
+    match text_given(alloc, path, table, "form") {
+        Ok(Some(text)) => match form_text(text) {
+            Some(form) => Ok(form),
+            None => Err(fault_at(alloc, ControlCause::Value, path, "form")),
+        },
+        Ok(None) => Ok(Form::Auto),
+        Err(error) => Err(error),
     }
 }
 
 fn constraints(alloc: Global, path: &str, table: &Table) -> Result<Held, ControlError>
     ensures { Answers (λ held. held) (spec.Is (given_or held.Auto held_text path.now (codes "constraints") (table_view table.now))) result }
 {
-    let Some(text) = text_given(alloc, path, table, "constraints")? else {
-        return Ok(Held::Auto);
-    };
-    match held_text(text) {
-        Some(held) => Ok(held),
-        None => Err(fault_at(alloc, ControlCause::Value, path, "constraints")),
+    match text_given(alloc, path, table, "constraints") {
+        Ok(Some(text)) => match held_text(text) {
+            Some(held) => Ok(held),
+            None => Err(fault_at(alloc, ControlCause::Value, path, "constraints")),
+        },
+        Ok(None) => Ok(Held::Auto),
+        Err(error) => Err(error),
     }
 }
 

@@ -1,6 +1,6 @@
 //! What stands at the keys of a table.
 
-ghost use Rattle.std.specs.Prelude.{◌≡◌, ◌++◌, map, option_map, string_bytes, IfOk};
+ghost use Rattle.std.specs.Prelude.{◌≡◌, ◌++◌, map, option_map, string_bytes, Ok, IfOk};
 ghost use Rattle.std.specs.List.{list_any, find};
 ghost use Rattle.std.specs.Str.{bytes_eq};
 ghost use Rattle.toml.specs.Data.{get_member, as_table, as_str};
@@ -39,6 +39,16 @@ pub(crate) fn entry_path(alloc: Global, array: &str, k: usize) -> Result<String,
     ensures { IfOk result (λ path. string_bytes path ≡ entry_path array.now k) }
 {
     format!(in alloc; "{array}.{k}")
+}
+
+/// A text of its own.
+pub(crate) fn owned(alloc: Global, text: &str) -> Result<String, ControlError>
+    ensures { Answers (λ text. string_bytes text) (Is (Ok text.now)) result }
+{
+    match String::from_str(alloc, text) {
+        Ok(text) => Ok(text),
+        Err(_) => Err(ControlError::Memory),
+    }
 }
 
 /// The value at a key.

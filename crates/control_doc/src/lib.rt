@@ -1,6 +1,16 @@
 //! The control file of a combination.
 #![tactic(auto)]
 
+/// The value of a step; a fault of it ends the function, as by `?`.
+macro_rules! value {
+    ($step:expr) => {
+        match $step {
+            Ok(value) => value,
+            Err(error) => return Err(error),
+        }
+    };
+}
+
 mod arrays;
 mod datum;
 mod decimals;
@@ -15,8 +25,6 @@ mod reading;
 mod reductions;
 mod scales;
 mod single;
-#[cfg(test)]
-mod tests;
 mod texts;
 
 pub use faults::{ControlCause, ControlError, ControlFault};

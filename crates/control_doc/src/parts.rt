@@ -11,7 +11,7 @@ ghost use Rattle.control_doc.specs.Pieces.{run_view, parts_view};
 
 use crate::arrays::tables_in;
 use crate::faults::{ControlCause, ControlError};
-use crate::keys::{fault, only_keys, other_key, table_of, text_given, value_at};
+use crate::keys::{fault, only_keys, other_key, owned, table_of, text_given, value_at};
 use std::alloc::Global;
 use toml::{Table, Value};
 
@@ -51,8 +51,10 @@ fn value_needed<'a>(alloc: Global, top: &'a Table, key: &str) -> Result<&'a Valu
 fn output_table<'a>(alloc: Global, top: &'a Table) -> Result<&'a Table, ControlError>
     ensures { Answers (λ table. table_view table.now) (Is (and_then (there (codes "output") (get_member (codes "output") (table_view top.now))) (table_at (codes "output")))) result }
 {
-    let value = value_needed(alloc, top, "output")?;
-    table_of(alloc, "output", value)
+    match value_needed(alloc, top, "output") {
+        Ok(value) => table_of(alloc, "output", value),
+        Err(error) => Err(error),
+    }
 }
 
 fn table_or<'a>(
@@ -76,8 +78,10 @@ fn datum_table<'a>(alloc: Global, top: &'a Table) -> Result<Option<&'a Table>, C
     let Some(value) = value_at(top, "datum") else {
         return Ok(None);
     };
-    let table = table_of(alloc, "datum", value)?;
-    Ok(Some(table))
+    match table_of(alloc, "datum", value) {
+        Ok(table) => Ok(Some(table)),
+        Err(error) => Err(error),
+    }
 }
 
 fn counted<'a>(alloc: Global, files: Vec<&'a Table>) -> Result<Vec<&'a Table>, ControlError>
@@ -95,9 +99,13 @@ fn counted<'a>(alloc: Global, files: Vec<&'a Table>) -> Result<Vec<&'a Table>, C
 fn file_tables<'a>(alloc: Global, top: &'a Table) -> Result<Vec<&'a Table>, ControlError>
     ensures { Answers (λ tables. map (λ table. table_view table.now) tables.items) (Is (and_then (and_then (there (codes "file") (get_member (codes "file") (table_view top.now))) (tables_at (codes "file"))) file_count)) result }
 {
-    let value = value_needed(alloc, top, "file")?;
-    let files = tables_in(alloc, "file", value)?;
-    counted(alloc, files)
+    match value_needed(alloc, top, "file") {
+        Ok(value) => match tables_in(alloc, "file", value) {
+            Ok(files) => counted(alloc, files),
+            Err(error) => Err(error),
+        },
+        Err(error) => Err(error),
+    }
 }
 
 fn reduction_tables<'a>(alloc: Global, top: &'a Table) -> Result<Vec<&'a Table>, ControlError>
@@ -134,8 +142,10 @@ fn scale_table<'a>(
     ensures value { Answers (λ table. table_view table.now) (Is (and_then (if_there no_members (table_at (codes "scale")) (get_member (codes "scale") (table_view top.now))) (no_more_than 60 (codes "scale")))) result }
     ensures few { IfOk result (λ table. length (keys_of (table_view table.now)) ≤ 60) }
 {
-    let scale = table_or(alloc, top, empty, "scale")?;
-    few(alloc, scale)
+    match table_or(alloc, top, empty, "scale") {
+        Ok(scale) => few(alloc, scale),
+        Err(error) => Err(error),
+    }
 }
 
 /// The keys of the top table.
@@ -160,13 +170,13 @@ pub(crate) fn parts_in<'a>(
     ensures value { Answers parts_view (Is (parts_in (table_view top.now))) result }
     ensures few { IfOk result (λ parts. length (keys_of (table_view parts.scale.now)) ≤ 60) }
 {
-    top_keys(alloc, top)?;
-    let output = output_table(alloc, top)?;
-    let run = table_or(alloc, top, empty, "run")?;
-    let files = file_tables(alloc, top)?;
-    let datum = datum_table(alloc, top)?;
-    let reductions = reduction_tables(alloc, top)?;
-    let scale = scale_table(alloc, top, empty)?;
+    value!(top_keys(alloc, top));
+    let output = value!(output_table(alloc, top));
+    let run = value!(table_or(alloc, top, empty, "run"));
+    let files = value!(file_tables(alloc, top));
+    let datum = value!(datum_table(alloc, top));
+    let reductions = value!(reduction_tables(alloc, top));
+    let scale = value!(scale_table(alloc, top, empty));
     Ok(TopParts {
         output,
         run,
@@ -180,9 +190,10 @@ pub(crate) fn parts_in<'a>(
 fn reference(alloc: Global, run: &Table) -> Result<String, ControlError>
     ensures { Answers (λ text. string_bytes text) (Is (given_or [] any_text run_path (codes "reference") (table_view run.now))) result }
 {
-    match text_given(alloc, "run", run, "reference")? {
-        Some(text) => Ok(String::from_str(alloc, text)?),
-        None => Ok(String::new(alloc)),
+    match text_given(alloc, "run", run, "reference") {
+        Ok(Some(text)) => owned(alloc, text),
+        Ok(None) => Ok(String::new(alloc)),
+        Err(error) => Err(error),
     }
 }
 
@@ -212,8 +223,8 @@ fn workers(alloc: Global, run: &Table) -> Result<usize, ControlError>
 pub(crate) fn run_in(alloc: Global, run: &Table) -> Result<RunPlan, ControlError>
     ensures { Answers run_view (Is (run_in (table_view run.now))) result }
 {
-    only_keys(alloc, "run", &["reference", "workers"], run)?;
-    let reference = reference(alloc, run)?;
-    let workers = workers(alloc, run)?;
+    value!(only_keys(alloc, "run", &["reference", "workers"], run));
+    let reference = value!(reference(alloc, run));
+    let workers = value!(workers(alloc, run));
     Ok(RunPlan { reference, workers })
 }

@@ -1,11 +1,12 @@
 //! Texts to controls.
 
-ghost use Rattle.std.specs.Prelude.{◌≡◌, ℕ, [], map, codes};
+ghost use Rattle.std.specs.Prelude.{◌≡◌, ℕ, [], map, codes, IfOk};
 ghost use Rattle.toml.specs.Data.{no_members};
 ghost use Rattle.toml.specs.Parse.{parse_document};
 ghost use Rattle.toml.specs.View.{table_view};
 ghost use Rattle.control_doc.specs.Control.{IsRead, IsControlOf, Is, reference_in, known_from, is_known, table_in};
 ghost use Rattle.control_doc.specs.Faults.{or_fault, key_path, entry_path};
+ghost use Rattle.control_doc.specs.Valid.{IsValidControl, AreNamed};
 ghost use Rattle.control_doc.specs.Views.{Answers, IsFault, control_view, plan_view, reduction_view};
 ghost use Rattle.control_doc.specs.declared.faults.ControlCause.TheVariants as causes;
 
@@ -25,13 +26,16 @@ use toml::Table;
 fn reference_in(alloc: Global, files: &[FilePlan], run: &Table) -> Result<(), ControlError>
     ensures { Answers (λ nothing. nothing) (Is (reference_in (map plan_view files.now) (table_view run.now))) result }
 {
-    let Some(name) = text_given(alloc, "run", run, "reference")? else {
-        return Ok(());
-    };
-    if is_listed(files, name) {
-        Ok(())
-    } else {
-        Err(fault_at(alloc, ControlCause::Value, "run", "reference"))
+    match text_given(alloc, "run", run, "reference") {
+        Ok(Some(name)) => {
+            if is_listed(files, name) {
+                Ok(())
+            } else {
+                Err(fault_at(alloc, ControlCause::Value, "run", "reference"))
+            }
+        }
+        Ok(None) => Ok(()),
+        Err(error) => Err(error),
     }
 }
 
@@ -132,14 +136,24 @@ fn table_in(alloc: Global, text: &[u8]) -> Result<Table, ControlError>
 }
 
 /// The control that a text says.
-///
-/// # Errors
-///
-/// The first fault of the text, with the path of its key; or want of memory.
-pub fn read_control(alloc: Global, text: &[u8]) -> Result<Control, ControlError>
+fn control_in(alloc: Global, text: &[u8]) -> Result<Control, ControlError>
     ensures { Answers control_view (IsRead text.now) result }
 {
     let table = table_in(alloc, text)?;
     let empty = Table::new(alloc);
     control_of(alloc, &table, &empty)
+}
+
+#[tactic(auto, using(crate::proofs::Validity::read_kept, crate::proofs::Validity::read_names))]
+/// The control that a text of TOML says.
+///
+/// # Errors
+///
+/// The first fault of the text, with its cause and the path of its key; or want of memory, which may come in the place of any answer.
+pub fn read_control(alloc: Global, text: &[u8]) -> Result<Control, ControlError>
+    ensures read { Answers control_view (IsRead text.now) result }
+    ensures valid { IfOk result (λ control. IsValidControl (control_view control)) }
+    ensures named { IfOk result (λ control. AreNamed (control_view control)) }
+{
+    control_in(alloc, text)
 }

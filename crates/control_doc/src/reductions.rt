@@ -16,7 +16,7 @@ ghost use Rattle.control_doc.specs.declared.faults.ControlCause.TheVariants as c
 
 use crate::arrays::texts_needed;
 use crate::faults::{ControlCause, ControlError};
-use crate::keys::{entry_path, fault_at, only_keys, text_needed};
+use crate::keys::{entry_path, fault_at, only_keys, owned, text_needed};
 use crate::plans::{Place, Reduction};
 use crate::texts::{
     code_of_name, epoch_of_name, kind_of_name, place_text, point_of_name, soln_of_name,
@@ -85,18 +85,22 @@ fn is_reduced(before: &[Reduction], id: &ParamId) -> bool
 fn place(alloc: Global, path: &str, table: &Table) -> Result<Place, ControlError>
     ensures { Answers (λ place. place) (spec.Is (needed place_text path.now (codes "at") (table_view table.now))) result }
 {
-    let text = text_needed(alloc, path, table, "at")?;
-    match place_text(text) {
-        Some(place) => Ok(place),
-        None => Err(fault_at(alloc, ControlCause::Value, path, "at")),
+    match text_needed(alloc, path, table, "at") {
+        Ok(text) => match place_text(text) {
+            Some(place) => Ok(place),
+            None => Err(fault_at(alloc, ControlCause::Value, path, "at")),
+        },
+        Err(error) => Err(error),
     }
 }
 
 fn named(alloc: Global, path: &str, table: &Table) -> Result<String, ControlError>
     ensures { Answers (λ text. string_bytes text) (spec.Is (needed spec.any_text path.now (codes "of") (table_view table.now))) result }
 {
-    let text = text_needed(alloc, path, table, "of")?;
-    Ok(String::from_str(alloc, text)?)
+    match text_needed(alloc, path, table, "of") {
+        Ok(text) => owned(alloc, text),
+        Err(error) => Err(error),
+    }
 }
 
 fn of_text(alloc: Global, place: Place, path: &str, table: &Table) -> Result<String, ControlError>

@@ -96,9 +96,13 @@ fn set_scale(
     ensures value { Answers (λ nothing. scales.new) (spec.Is (spec.with_scale (table_view table.now) scales.old key.now)) result }
     ensures size { OnOk result (finmap.len scales.new ≤ finmap.len scales.old + 1) }
 {
-    let t = exponent(alloc, table, key)?;
-    scales.set(padded(key.as_bytes()), t)?;
-    Ok(())
+    match exponent(alloc, table, key) {
+        Ok(t) => match scales.set(padded(key.as_bytes()), t) {
+            Ok(()) => Ok(()),
+            Err(_) => Err(ControlError::Memory),
+        },
+        Err(error) => Err(error),
+    }
 }
 
 /// The standard exponents, and those of the table in the place of theirs.
@@ -118,6 +122,8 @@ pub(crate) fn scales_in(alloc: Global, table: &Table) -> Result<Scales, ControlE
     requires { length (keys_of (table_view table.now)) ≤ 60 }
     ensures { Answers (λ scales. scales) (spec.Is (spec.scales_in (table_view table.now))) result }
 {
-    scale_keys(alloc, table)?;
-    scales_from(alloc, table)
+    match scale_keys(alloc, table) {
+        Ok(()) => scales_from(alloc, table),
+        Err(error) => Err(error),
+    }
 }

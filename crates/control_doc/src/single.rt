@@ -2,6 +2,7 @@
 
 ghost use Rattle.std.specs.Prelude.{◌≡◌, IfOk};
 ghost use Rattle.control_doc.specs.Single.{alone_control, alone_plan};
+ghost use Rattle.control_doc.specs.Valid.{IsValidControl};
 ghost use Rattle.control_doc.specs.Views.{control_view, plan_view};
 
 use crate::decimals::one;
@@ -24,11 +25,7 @@ fn plain_plan(alloc: Global, name: &str) -> Result<FilePlan, AllocError>
 }
 
 /// The control for one file alone, with all defaults.
-///
-/// # Errors
-///
-/// Want of memory.
-pub fn alone(alloc: Global, name: &str) -> Result<Control, AllocError>
+fn plain_control(alloc: Global, name: &str) -> Result<Control, AllocError>
     ensures { IfOk result (λ control. control_view control ≡ alone_control name.now) }
 {
     let mut files = Vec::new(alloc);
@@ -49,4 +46,17 @@ pub fn alone(alloc: Global, name: &str) -> Result<Control, AllocError>
         reductions: Vec::new(alloc),
         scales,
     })
+}
+
+#[tactic(auto, using(crate::proofs::Validity::alone_kept))]
+/// The control for one file alone, with all defaults. Its name may be any text.
+///
+/// # Errors
+///
+/// Want of memory.
+pub fn alone(alloc: Global, name: &str) -> Result<Control, AllocError>
+    ensures value { IfOk result (λ control. control_view control ≡ alone_control name.now) }
+    ensures valid { IfOk result (λ control. IsValidControl (control_view control)) }
+{
+    plain_control(alloc, name)
 }

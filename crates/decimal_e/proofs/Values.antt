@@ -39,7 +39,7 @@ pub same_sym : (a b : Decimal) → SameValue a b → SameValue b a
 same_sym a b s = record { same = sym s.same }
 
 -- of two decimals with one value, that with the less exponent has the more zeros
-lifted : (a b : Decimal) (k : ℕ) → b.exp ≡ a.exp +ℤ pos k → SameValue a b → a.mant ≡ b.mant *ℤ pos (10 ^ k)
+pub lifted : (a b : Decimal) (k : ℕ) → b.exp ≡ a.exp +ℤ pos k → SameValue a b → a.mant ≡ b.mant *ℤ pos (10 ^ k)
 lifted a b k h s =
     let some = mul-pos (above_some a.exp) (ten_below_some b.exp) in
     same_from_product a.mant (b.mant *ℤ pos (10 ^ k)) (ten_above a.exp * ten_below b.exp) some
@@ -65,7 +65,7 @@ one_canonical_by a b (suc k) h p q s =
       | inr z ↦ absurd (p.other z (ap (λ x. x % 10) size ∙ ends_in_zero (unsigned_abs b.mant) k))
     ]
 
-gap : (a b : ℤ) → a ≤ℤ b → (k : ℕ) × (b ≡ a +ℤ pos k)
+pub gap : (a b : ℤ) → a ≤ℤ b → (k : ℕ) × (b ≡ a +ℤ pos k)
 gap a b h = (unsigned_abs (b -ℤ a), omega (arith, ints))
 
 pub one_canonical_of : (a b : Decimal) → IsCanonical a → IsCanonical b → SameValue a b → a ≡ b

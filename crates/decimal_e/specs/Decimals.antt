@@ -1,5 +1,5 @@
 -- Decimals: a whole number times a power of ten.
-use Rattle.std.specs.Prelude.{◌≡◌, ◌≢◌, ℕ, suc, ℤ, pos, negsuc, ◌*ℤ◌, neg_ℤ, ◌≤ℤ◌, ◌<◌, ◌*◌, ◌^◌, ◌%◌, unsigned_abs}
+use Rattle.std.specs.Prelude.{◌≡◌, ◌≢◌, ℕ, ℤ, pos, negsuc, ◌+ℤ◌, ◌*ℤ◌, neg_ℤ, ◌≤ℤ◌, ◌<◌, ◌*◌, ◌^◌, ◌%◌, unsigned_abs, Option, None, Some}
 use Rattle.whole_numbers.specs.Scaling.{ten_above, ten_below}
 
 -- the number mant * 10^exp
@@ -26,6 +26,15 @@ pub record IsBounded (d : Decimal) : Type 0 where
   pub mant : unsigned_abs d.mant < 10 ^ 36
   pub low : negsuc 799 ≤ℤ d.exp
   pub high : d.exp ≤ℤ pos 120
+
+-- the number in canonical form; nothing exactly where that passes the bounds of the type
+abbrev pub IsDecOf : Decimal → Option Decimal → Type 0
+IsDecOf number None = (d : Decimal) × (IsCanonicalOf d number × ¬ (IsBounded d))
+IsDecOf number (Some d) = IsCanonicalOf d number × IsBounded d
+
+-- the product, which need not be canonical
+abbrev pub product : Decimal → Decimal → Decimal
+product a b = record { mant = a.mant *ℤ b.mant; exp = a.exp +ℤ b.exp }
 
 -- the number of this size with the sign of another
 abbrev pub signed_like : ℤ → ℕ → ℤ

@@ -1,7 +1,7 @@
 //! The type of decimals.
 
-ghost use Rattle.std.specs.Prelude.{◌≡◌, ◌≢◌, pos, negsuc, ◌+ℤ◌, ◌≤ℤ◌, ◌≤◌, ◌<◌, ◌*◌, ◌^◌, ◌%◌, MatchBool, MatchOption};
-ghost use Rattle.decimal_e.specs.Decimals.{Decimal, IsCanonical, IsCanonicalOf, IsBounded, OneCanonical, OneForm, signed_like};
+ghost use Rattle.std.specs.Prelude.{◌≡◌, ◌≢◌, pos, negsuc, ◌+ℤ◌, ◌≤ℤ◌, ◌≤◌, ◌<◌, ◌*◌, ◌^◌, ◌%◌, MatchBool};
+ghost use Rattle.decimal_e.specs.Decimals.{Decimal, IsCanonical, IsBounded, IsDecOf, OneCanonical, OneForm, signed_like};
 
 use std::marker::Model;
 
@@ -61,9 +61,7 @@ impl Dec {
     pub fn new(mant: i128, exp: i32) -> Option<Dec>
         requires low { negsuc 9999 ≤ℤ exp }
         requires high { exp ≤ℤ pos 10000 }
-        ensures { let number : Decimal = record { mant = mant; exp = exp } in MatchOption result
-            ((d : Decimal) × (IsCanonicalOf d number × ¬ (IsBounded d)))
-            (λ d. IsCanonicalOf d number × IsBounded d) }
+        ensures { IsDecOf (record { mant = mant; exp = exp }) result }
     {
         if mant == 0 {
             return Some(made(0, 0));
@@ -78,7 +76,8 @@ impl Dec {
     }
 }
 
-const LIMIT: u128 = 1_000_000_000_000_000_000_000_000_000_000_000_000;
+/// The mantissa is below this in size.
+pub(crate) const LIMIT: u128 = 1_000_000_000_000_000_000_000_000_000_000_000_000;
 
 // The exponent of a mantissa without so many zeros at its end.
 fn raised(exp: i32, zeros: u32) -> i32

@@ -1,6 +1,7 @@
-//! Decimals of SINEX lines and their faults, and decimals rounded at a power of ten.
+//! Decimals of SINEX lines and their faults, decimals rounded at a power of ten, and their products.
 
 ghost use Rattle.std.specs.Prelude.{◌≡◌, ◌↔◌, IsTrue, pos, negsuc, codes, []};
+ghost use Rattle.decimal_e.specs.Decimals.{product};
 ghost use Rattle.decimal_e.specs.Digits.{number};
 ghost use Rattle.decimal_e.specs.Grammar.{value_of};
 ghost use Rattle.decimal_e.specs.Scales.{decimal_interval};
@@ -72,6 +73,7 @@ fn evaluated()
     }) ≡ record { mant = pos 5; exp = negsuc 10 } }
     ensures digits { number (codes "0012") ≡ 12 }
     ensures rounded { decimal_interval (record { mant = negsuc 14; exp = negsuc 0 }) (pos 0) ≡ record { lo = negsuc 1; hi = negsuc 0 } }
+    ensures multiplied { product (record { mant = negsuc 14; exp = negsuc 0 }) (record { mant = pos 4; exp = pos 3 }) ≡ record { mant = negsuc 59; exp = pos 2 } }
 {}
 
 // Equality of decimals is equality of their values.
@@ -114,5 +116,63 @@ fn decimals_are_rounded(rt: HostRuntime) -> Result<(), Fail> {
         Dec::new(0, 9999).map(|d| (d.mant(), d.exp())),
         Some((0, 0))
     );
+    Ok(())
+}
+
+// 2^118
+fn twos() -> Option<Dec> {
+    Dec::new(332_306_998_946_228_968_225_951_765_070_086_144, 0)
+}
+
+// -5^50
+fn fives() -> Option<Dec> {
+    Dec::new(-88_817_841_970_012_523_233_890_533_447_265_625, 0)
+}
+
+// 10^35 + 1
+fn long() -> Option<Dec> {
+    Dec::new(100_000_000_000_000_000_000_000_000_000_000_001, 0)
+}
+
+// The product's mantissa and exponent.
+fn multiplied(left: Option<Dec>, right: Option<Dec>) -> Option<(i128, i32)> {
+    let product = left?.times(&right?)?;
+    Some((product.mant(), product.exp()))
+}
+
+#[test]
+fn decimals_are_multiplied(rt: HostRuntime) -> Result<(), Fail> {
+    one_times();
+    same_values();
+    // Minus 2^68 times 10^50.
+    assert_eq!(rt;
+        multiplied(twos(), fives()),
+        Some((-295_147_905_179_352_825_856, 50))
+    );
+    assert_eq!(rt;
+        multiplied(fives(), twos()),
+        Some((-295_147_905_179_352_825_856, 50))
+    );
+    assert_eq!(rt; multiplied(long(), long()), None);
+    assert_eq!(rt; multiplied(long(), Dec::new(0, 0)), Some((0, 0)));
+    assert_eq!(rt; multiplied(Dec::new(0, 0), Dec::new(-1, 120)), Some((0, 0)));
+    assert_eq!(rt;
+        multiplied(Dec::new(-3, -2), Dec::new(-7, 1)),
+        Some((21, -1))
+    );
+    assert_eq!(rt;
+        multiplied(Dec::new(3, -2), Dec::new(-7, 1)),
+        Some((-21, -1))
+    );
+    assert_eq!(rt;
+        multiplied(Dec::new(2, 60), Dec::new(5, 59)),
+        Some((1, 120))
+    );
+    assert_eq!(rt; multiplied(Dec::new(5, 60), Dec::new(2, 60)), None);
+    assert_eq!(rt;
+        multiplied(Dec::new(5, -401), Dec::new(2, -400)),
+        Some((1, -800))
+    );
+    assert_eq!(rt; multiplied(Dec::new(1, -401), Dec::new(1, -400)), None);
     Ok(())
 }

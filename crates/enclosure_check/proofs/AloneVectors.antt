@@ -8,7 +8,7 @@ use Rattle.whole_numbers.specs.Sum.{sum_to}
 use Rattle.stated_order.proofs.FirstLaws.{neither_less}
 use Rattle.whole_numbers.proofs.Sums.{sum_to_same, total_part, total_to_same}
 use Rattle.sys_model.specs.Systems.{Table}
-use Rattle.enclosures.specs.Pilots.{PilotTable, pilot_word}
+use Rattle.enclosures.specs.Pilots.{PilotTable, pilot_entry}
 use Rattle.enclosure_check.specs.Vectors.{midpoint_residual, AllFitAfter, corrected, IsRefinement, AfterRefinements, IsStartVector, IsVectorRange}
 use Rattle.enclosures.specs.Vectors.{IsSmall}
 use Rattle.whole_numbers.specs.Intervals.{midpoint}
@@ -36,9 +36,9 @@ module _ (n : ℕ) (t : Table) (p : PilotTable) where
 
   corrected_same : (c d : ℕ → ℤ) (h : ℕ) (y z : ℕ → ℤ) → SameBelow n c d → SameBelow n y z → SameBelow n (corrected n p c h y) (corrected n p d h z)
   corrected_same c d h y z left same i row =
-      ap (λ a. a +ℤ floor_over (sum_to n (λ k. pilot_word p i k *ℤ floor_over (c k) (2 ^ h))) (2 ^ (p.g + 60 - h))) (same i row)
+      ap (λ a. a +ℤ floor_over (sum_to n (λ k. pilot_entry p i k *ℤ floor_over (c k) (2 ^ h))) (2 ^ (p.g + 60 - h))) (same i row)
       ∙ ap (λ s. z i +ℤ floor_over s (2 ^ (p.g + 60 - h)))
-      (sum_to_same n (λ k. pilot_word p i k *ℤ floor_over (c k) (2 ^ h)) (λ k. pilot_word p i k *ℤ floor_over (d k) (2 ^ h)) (λ k r. ap (λ a. pilot_word p i k *ℤ floor_over a (2 ^ h)) (left k r)))
+      (sum_to_same n (λ k. pilot_entry p i k *ℤ floor_over (c k) (2 ^ h)) (λ k. pilot_entry p i k *ℤ floor_over (d k) (2 ^ h)) (λ k r. ap (λ a. pilot_entry p i k *ℤ floor_over a (2 ^ h)) (left k r)))
 
   refinement_same : (y z c d : ℕ → ℤ) → SameBelow n y z → IsRefinement n t p y c → IsRefinement n t p z d → SameBelow n c d
   refinement_same y z c d same a b i row =

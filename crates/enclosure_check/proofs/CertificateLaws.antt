@@ -5,7 +5,7 @@ use Rattle.whole_numbers.specs.Quotients.{up_over}
 use Rattle.whole_numbers.specs.Intervals.{Holds}
 use Rattle.sys_model.specs.Systems.{Table, Encloses, around, rho, radius}
 use Rattle.sys_model.proofs.Exist.{encloses}
-use Rattle.enclosures.specs.Pilots.{PilotTable, pilot_word}
+use Rattle.enclosures.specs.Pilots.{PilotTable, pilot_entry}
 use Rattle.enclosures.specs.Radii.{radius_at}
 use Rattle.enclosure_check.specs.declared.CheckError.{CheckError}
 use Rattle.enclosure_check.specs.declared.CheckError.TheVariants.{Residual, Defect, Memory}
@@ -137,8 +137,8 @@ same_radii n t y w u same e = record {
 
 certified_encloses : (n : ℕ) (t : Table) (p : PilotTable) (y : ℕ → ℤ) (v : Radius) (c : IsCertified n t p y v) → c.h ≤ 60 → Encloses n t y (radius_at v)
 certified_encloses n t p y v c few =
-    same_radii n t y (radius n p.g c.h (pilot_word p) t y v.b v.m) (radius_at v) c.radii
-    (encloses n p.g c.h (pilot_word p) t y v.b v.m (record {
+    same_radii n t y (radius n p.g c.h (pilot_entry p) t y v.b v.m) (radius_at v) c.radii
+    (encloses n p.g c.h (pilot_entry p) t y v.b v.m (record {
       shift = few;
       parts = λ i l. omega (arith, c.parts, le-greatest_to n (parts_of n t p) i l);
       errors = λ i l. omega (arith, c.error, le-greatest_to n (error_of n t p y c.h) i l);

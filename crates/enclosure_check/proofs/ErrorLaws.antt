@@ -8,12 +8,12 @@ use Rattle.whole_numbers.specs.Intervals.{Interval, size, interval_add, interval
 use Rattle.whole_numbers.proofs.Sizes.{product_le, size_scale, size_sum_by}
 use Rattle.whole_numbers.proofs.Sums.{total_part, total_to_le, total_to-*, total_to-bound, le-total_to}
 use Rattle.whole_numbers.proofs.IntervalLaws.{sum_intervals_same}
-use Rattle.sym_blocks.specs.Tables.{SymTable, word}
+use Rattle.sym_blocks.specs.Tables.{SymTable, entry_at}
 use Rattle.whole_numbers.specs.Lists.{at}
 use Rattle.sys_model.specs.Systems.{Table, residual_interval}
-use Rattle.enclosures.specs.Pilots.{PilotTable, pilot_word}
+use Rattle.enclosures.specs.Pilots.{PilotTable, pilot_entry}
 use Rattle.enclosure_check.specs.Certificates.{AreErrors, ResidualFitsAfter}
-use Rattle.enclosure_check.specs.ErrorParts.{IsVector, IsRowByWords, AreResiduals, AreShifted, AreShiftedResiduals, AreShiftedErrors, FitAfter, taken_interval, part_interval, shifted_error, word_at}
+use Rattle.enclosure_check.specs.ErrorParts.{IsVector, IsRowByEntries, AreResiduals, AreShifted, AreShiftedResiduals, AreShiftedErrors, FitAfter, taken_interval, part_interval, shifted_error, nth_entry}
 use Rattle.stated_order.specs.First.{IsLeast}
 
 -- ---- sums of intervals
@@ -32,44 +32,44 @@ step_fits k f w v e d h =
 -- ---- what the vector takes of a row
 -- the intervals of a working table
 abbrev pub AreSmallIntervals : SymTable → Type 0
-AreSmallIntervals a = (i j : ℕ) → i < a.size → j < a.size → size (word a i j) ≤ 2 ^ 61
+AreSmallIntervals a = (i j : ℕ) → i < a.size → j < a.size → size (entry_at a i j) ≤ 2 ^ 61
 
 -- each product fits
-pub taken_small : (a : SymTable) (y : List ℤ) (i j : ℕ) → AreSmallIntervals a → IsVector a.size y → i < a.size → j < a.size → unsigned_abs (at y j) * size (word a i j) ≤ 2 ^ 126
+pub taken_small : (a : SymTable) (y : List ℤ) (i j : ℕ) → AreSmallIntervals a → IsVector a.size y → i < a.size → j < a.size → unsigned_abs (at y j) * size (entry_at a i j) ≤ 2 ^ 126
 taken_small a y i j small v row column =
     let t = le-total_to a.size (λ k. unsigned_abs (at y k)) j column in
-    omega (arith, product_le (unsigned_abs (at y j)) (2 ^ 64) (size (word a i j)) (2 ^ 61) (omega (arith, v.small)) (small i j row column))
+    omega (arith, product_le (unsigned_abs (at y j)) (2 ^ 64) (size (entry_at a i j)) (2 ^ 61) (omega (arith, v.small)) (small i j row column))
 
 -- so does each part of their sum
 pub row_small : (a : SymTable) (y : List ℤ) (i m : ℕ) → AreSmallIntervals a → IsVector a.size y → i < a.size → m ≤ a.size → size (sum_intervals m (taken_interval a y i)) ≤ 2 ^ 125
 row_small a y i m small v row most =
     let s = size_sum_by m (taken_interval a y i) in
-    let b = total_to_le m (λ k. size (taken_interval a y i k)) (λ k. unsigned_abs (at y k) * 2 ^ 61) (λ k d. size_scale (at y k) (word a i k) (unsigned_abs (at y k)) (2 ^ 61) (omega arith) (small i k row (omega arith))) in
+    let b = total_to_le m (λ k. size (taken_interval a y i k)) (λ k. unsigned_abs (at y k) * 2 ^ 61) (λ k d. size_scale (at y k) (entry_at a i k) (unsigned_abs (at y k)) (2 ^ 61) (omega arith) (small i k row (omega arith))) in
     let c = total_to-* m (λ k. unsigned_abs (at y k)) (2 ^ 61) in
     let e = total_part a.size (λ k. unsigned_abs (at y k)) m most in
     omega (arith, s, b, c, e, v.small)
 
 -- ---- what the pilot makes of the intervals
 -- each product fits
-pub part_small : (r : List ℤ) (ws : List Interval) (k : ℕ) → IsRowByWords r ws → k < length ws → unsigned_abs (at r k) * size (word_at ws k) ≤ 2 ^ 126
+pub part_small : (r : List ℤ) (ws : List Interval) (k : ℕ) → IsRowByEntries r ws → k < length ws → unsigned_abs (at r k) * size (nth_entry ws k) ≤ 2 ^ 126
 part_small r ws k s h =
-    omega (arith, product_le (unsigned_abs (at r k)) (2 ^ 50) (size (word_at ws k)) (2 ^ 66) (s.row_small k (omega (arith, s.len))) (s.words_small k h))
+    omega (arith, product_le (unsigned_abs (at r k)) (2 ^ 50) (size (nth_entry ws k)) (2 ^ 66) (s.row_small k (omega (arith, s.len))) (s.entries_small k h))
 
 -- so does each part of their sum
-pub parts_small : (r : List ℤ) (ws : List Interval) (m : ℕ) → IsRowByWords r ws → m ≤ length ws → size (sum_intervals m (part_interval r ws)) ≤ 2 ^ 126
+pub parts_small : (r : List ℤ) (ws : List Interval) (m : ℕ) → IsRowByEntries r ws → m ≤ length ws → size (sum_intervals m (part_interval r ws)) ≤ 2 ^ 126
 parts_small r ws m s most =
     let t = size_sum_by m (part_interval r ws) in
-    let b = total_to-bound m (λ k. size (part_interval r ws k)) (2 ^ 50 * 2 ^ 66) (λ k d. size_scale (at r k) (word_at ws k) (2 ^ 50) (2 ^ 66) (s.row_small k (omega (arith, s.len))) (s.words_small k (omega arith))) in
+    let b = total_to-bound m (λ k. size (part_interval r ws k)) (2 ^ 50 * 2 ^ 66) (λ k d. size_scale (at r k) (nth_entry ws k) (2 ^ 50) (2 ^ 66) (s.row_small k (omega (arith, s.len))) (s.entries_small k (omega arith))) in
     omega (arith, t, b, s.few)
 
 -- ---- the error of a row
 -- what the code computes is the error
-pub row_error_is : (p : PilotTable) (r : List ℤ) (ws : List Interval) (h i m t : ℕ) (b : Interval) → length ws ≡ p.size → ((k : ℕ) → k < p.size → at r k ≡ pilot_word p i k)
+pub row_error_is : (p : PilotTable) (r : List ℤ) (ws : List Interval) (h i m t : ℕ) (b : Interval) → length ws ≡ p.size → ((k : ℕ) → k < p.size → at r k ≡ pilot_entry p i k)
     → b ≡ sum_intervals (length ws) (part_interval r ws) → m ≡ size b → t ≡ 2 ^ (p.g + 60 - h) → up_over m t ≡ shifted_error p ws h i
 row_error_is p r ws h i m t b len row is em et =
     let by_size : b ≡ sum_intervals p.size (part_interval r ws) = is ∙ ap (λ n. sum_intervals n (part_interval r ws)) len in
-    let same = by_size ∙ sum_intervals_same p.size (part_interval r ws) (λ k. interval_scale (pilot_word p i k) (word_at ws k)) (λ k l. ap (λ x. interval_scale x (word_at ws k)) (row k l)) in
-    ap (λ x. up_over x t) (em ∙ ap (λ w. size w) same) ∙ ap (λ x. up_over (size (sum_intervals p.size (λ k. interval_scale (pilot_word p i k) (word_at ws k)))) x) et
+    let same = by_size ∙ sum_intervals_same p.size (part_interval r ws) (λ k. interval_scale (pilot_entry p i k) (nth_entry ws k)) (λ k l. ap (λ x. interval_scale x (nth_entry ws k)) (row k l)) in
+    ap (λ x. up_over x t) (em ∙ ap (λ w. size w) same) ∙ ap (λ x. up_over (size (sum_intervals p.size (λ k. interval_scale (pilot_entry p i k) (nth_entry ws k)))) x) et
 
 -- ---- the errors of all rows
 -- what is least of one kind is least of another that is the same
@@ -107,9 +107,9 @@ errors_are n t y p ws vs h size_is few left least shifted errors are = record {
   shift = least_same (FitAfter ws) (ResidualFitsAfter n t y) h (fits_left n t y ws left) (fits_back n t y ws left) least;
   len = omega (arith, are.len);
   each = λ i row.
-      let same = sum_intervals_same n (λ k. interval_scale (pilot_word p i k) (word_at vs k)) (λ k. interval_scale (pilot_word p i k) (interval_shift h (residual_interval n t y k)))
-      (λ k l. ap (λ w. interval_scale (pilot_word p i k) w) (shifted.each k (omega (arith, left.len)) ∙ ap (λ w. interval_shift h w) (left.each k l))) in
+      let same = sum_intervals_same n (λ k. interval_scale (pilot_entry p i k) (nth_entry vs k)) (λ k. interval_scale (pilot_entry p i k) (interval_shift h (residual_interval n t y k)))
+      (λ k l. ap (λ w. interval_scale (pilot_entry p i k) w) (shifted.each k (omega (arith, left.len)) ∙ ap (λ w. interval_shift h w) (left.each k l))) in
       are.each i (omega arith)
-      ∙ ap (λ m. up_over (size (sum_intervals m (λ k. interval_scale (pilot_word p i k) (word_at vs k)))) (2 ^ (p.g + 60 - h))) size_is
+      ∙ ap (λ m. up_over (size (sum_intervals m (λ k. interval_scale (pilot_entry p i k) (nth_entry vs k)))) (2 ^ (p.g + 60 - h))) size_is
       ∙ ap (λ w. up_over (size w) (2 ^ (p.g + 60 - h))) same;
 }

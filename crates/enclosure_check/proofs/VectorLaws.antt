@@ -9,10 +9,10 @@ use Rattle.whole_numbers.specs.Intervals.{Interval, size, midpoint}
 use Rattle.whole_numbers.proofs.Sizes.{floor_small, product_le, quotient_small}
 use Rattle.whole_numbers.proofs.Sums.{sum_to_same, abs-sum_to, abs-dot, total_part, total_to_le, total_to_same, total_to-*, total_to-bound, le-total_to}
 use Rattle.whole_numbers.proofs.IntervalLaws.{two_pow_above}
-use Rattle.sym_blocks.specs.Tables.{SymTable, word}
+use Rattle.sym_blocks.specs.Tables.{SymTable, entry_at}
 use Rattle.sys_model.specs.Systems.{Table}
 use Rattle.whole_numbers.specs.Lists.{at}
-use Rattle.enclosures.specs.Pilots.{PilotTable, pilot_word}
+use Rattle.enclosures.specs.Pilots.{PilotTable, pilot_entry}
 use Rattle.enclosure_check.specs.Answers.{IsVectorRefused}
 use Rattle.enclosure_check.specs.ErrorParts.{IsVector}
 use Rattle.enclosure_check.specs.VectorParts.{taken_midpoint, part_number, correction_at, corrected_at, AreMidpointResiduals, AreFloors, IsRowByNumbers, AreShiftedNumbers, AreSmallNumbers, IsPassed, IsRefined, IsRefinementRefused}
@@ -36,17 +36,17 @@ sum_step k f s p e d h =
 
 -- ---- what the vector takes of a row
 -- each product fits
-pub taken_small : (a : SymTable) (y : List ℤ) (i j : ℕ) → AreSmallIntervals a → IsVector a.size y → i < a.size → j < a.size → unsigned_abs (midpoint (word a i j)) * unsigned_abs (at y j) ≤ 2 ^ 126
+pub taken_small : (a : SymTable) (y : List ℤ) (i j : ℕ) → AreSmallIntervals a → IsVector a.size y → i < a.size → j < a.size → unsigned_abs (midpoint (entry_at a i j)) * unsigned_abs (at y j) ≤ 2 ^ 126
 taken_small a y i j small v row column =
     let t = le-total_to a.size (λ k. unsigned_abs (at y k)) j column in
-    omega (arith, product_le (unsigned_abs (midpoint (word a i j))) (2 ^ 61) (unsigned_abs (at y j)) (2 ^ 64) (middle_small (word a i j) (2 ^ 61) (small i j row column)) (omega (arith, v.small)))
+    omega (arith, product_le (unsigned_abs (midpoint (entry_at a i j))) (2 ^ 61) (unsigned_abs (at y j)) (2 ^ 64) (middle_small (entry_at a i j) (2 ^ 61) (small i j row column)) (omega (arith, v.small)))
 
 -- so does each part of their sum
 pub row_small : (a : SymTable) (y : List ℤ) (i m : ℕ) → AreSmallIntervals a → IsVector a.size y → i < a.size → m ≤ a.size → unsigned_abs (sum_to m (taken_midpoint a y i)) ≤ 2 ^ 125
 row_small a y i m small v row most =
     let s = abs-sum_to m (taken_midpoint a y i) in
     let b = total_to_le m (λ k. unsigned_abs (taken_midpoint a y i k)) (λ k. unsigned_abs (at y k) * 2 ^ 61)
-    (λ k d. let p = product_le (unsigned_abs (at y k)) (unsigned_abs (at y k)) (unsigned_abs (midpoint (word a i k))) (2 ^ 61) (omega arith) (middle_small (word a i k) (2 ^ 61) (small i k row (omega arith))) in omega (arith, unsigned_abs-mul (midpoint (word a i k)) (at y k), p)) in
+    (λ k d. let p = product_le (unsigned_abs (at y k)) (unsigned_abs (at y k)) (unsigned_abs (midpoint (entry_at a i k))) (2 ^ 61) (omega arith) (middle_small (entry_at a i k) (2 ^ 61) (small i k row (omega arith))) in omega (arith, unsigned_abs-mul (midpoint (entry_at a i k)) (at y k), p)) in
     let c = total_to-* m (λ k. unsigned_abs (at y k)) (2 ^ 61) in
     let e = total_part a.size (λ k. unsigned_abs (at y k)) m most in
     omega (arith, s, b, c, e, v.small)
@@ -72,11 +72,11 @@ pub change_small : (b v : ℤ) (m : ℕ) → unsigned_abs b ≤ 2 ^ 126 → v �
 change_small b v m h e = let q = quotient_small b (2 ^ m) (two_pow_above m) in omega (arith, ap unsigned_abs e, q)
 
 -- the floor of the row's sum is the change
-pub change_is : (p : PilotTable) (r vs : List ℤ) (h i g : ℕ) (b v : ℤ) → length vs ≡ p.size → ((k : ℕ) → k < p.size → at r k ≡ pilot_word p i k) → b ≡ sum_to (length vs) (part_number r vs) → g ≡ p.g → v ≡ floor_over b (2 ^ (g + 60 - h)) → v ≡ correction_at p vs h i
+pub change_is : (p : PilotTable) (r vs : List ℤ) (h i g : ℕ) (b v : ℤ) → length vs ≡ p.size → ((k : ℕ) → k < p.size → at r k ≡ pilot_entry p i k) → b ≡ sum_to (length vs) (part_number r vs) → g ≡ p.g → v ≡ floor_over b (2 ^ (g + 60 - h)) → v ≡ correction_at p vs h i
 change_is p r vs h i g b v len row is scale floor =
-    let same = sum_to_same p.size (part_number r vs) (λ k. pilot_word p i k *ℤ at vs k) (λ k l. ap (λ x. x *ℤ at vs k) (row k l)) in
+    let same = sum_to_same p.size (part_number r vs) (λ k. pilot_entry p i k *ℤ at vs k) (λ k l. ap (λ x. x *ℤ at vs k) (row k l)) in
     let sum = is ∙ ap (λ n. sum_to n (part_number r vs)) len ∙ same in
-    floor ∙ ap (λ x. floor_over x (2 ^ (g + 60 - h))) sum ∙ ap (λ s. floor_over (sum_to p.size (λ k. pilot_word p i k *ℤ at vs k)) (2 ^ (s + 60 - h))) scale
+    floor ∙ ap (λ x. floor_over x (2 ^ (g + 60 - h))) sum ∙ ap (λ s. floor_over (sum_to p.size (λ k. pilot_entry p i k *ℤ at vs k)) (2 ^ (s + 60 - h))) scale
 
 -- ---- one refinement
 -- small numbers stay small where they are the same
@@ -101,9 +101,9 @@ made_numbers n t p y qs vs h few m = record {
 -- a number made of the lists is that of the refinement
 corrected_same : (n : ℕ) (t : Table) (p : PilotTable) (y qs vs : List ℤ) (h : ℕ) → IsMade n t p y qs vs h → (i : ℕ) → corrected_at p y vs h i ≡ corrected n p (midpoint_residual n t (at y)) h (at y) i
 corrected_same n t p y qs vs h m i =
-    let same = sum_to_same n (λ k. pilot_word p i k *ℤ at vs k) (λ k. pilot_word p i k *ℤ floor_over (midpoint_residual n t (at y) k) (2 ^ h))
-    (λ k l. ap (λ x. pilot_word p i k *ℤ x) (m.floors.each k (omega (arith, m.left.len)) ∙ ap (λ x. floor_over x (2 ^ h)) (m.left.each k l))) in
-    ap (λ s. at y i +ℤ floor_over (sum_to s (λ k. pilot_word p i k *ℤ at vs k)) (2 ^ (p.g + 60 - h))) m.size ∙ ap (λ x. at y i +ℤ floor_over x (2 ^ (p.g + 60 - h))) same
+    let same = sum_to_same n (λ k. pilot_entry p i k *ℤ at vs k) (λ k. pilot_entry p i k *ℤ floor_over (midpoint_residual n t (at y) k) (2 ^ h))
+    (λ k l. ap (λ x. pilot_entry p i k *ℤ x) (m.floors.each k (omega (arith, m.left.len)) ∙ ap (λ x. floor_over x (2 ^ h)) (m.left.each k l))) in
+    ap (λ s. at y i +ℤ floor_over (sum_to s (λ k. pilot_entry p i k *ℤ at vs k)) (2 ^ (p.g + 60 - h))) m.size ∙ ap (λ x. at y i +ℤ floor_over x (2 ^ (p.g + 60 - h))) same
 
 -- what fits of the list fits of the definition, and the other way round
 fits_left : (n : ℕ) (t : Table) (y : ℕ → ℤ) (qs : List ℤ) → AreMidpointResiduals n t y qs → (h : ℕ) → AllFitAfter (length qs) (at qs) h → AllFitAfter n (midpoint_residual n t y) h

@@ -5,7 +5,7 @@ use Rattle.std.proofs.Math.Nat.{mul-le-mul_left, mul-le-mul_right, pow-le-pow_ri
 use Rattle.whole_numbers.specs.Intervals.{point_interval}
 use Rattle.whole_numbers.proofs.IntervalLaws.{two_pow_above}
 use Rattle.sys_model.specs.Systems.{Table, radius}
-use Rattle.enclosures.specs.Pilots.{PilotTable, pilot_word}
+use Rattle.enclosures.specs.Pilots.{PilotTable, pilot_entry}
 use Rattle.enclosure_check.specs.Certificates.{ResidualFitsAfter, parts_of, error_of}
 use Rattle.stated_order.specs.First.{IsLeast}
 
@@ -13,13 +13,13 @@ abbrev table : ℤ → ℤ → Table
 table a d = record { entry = λ i j. point_interval a; right = λ i. point_interval d }
 
 abbrev pilot : ℤ → PilotTable
-pilot r = record { g = 0; size = 1; words = r ∷ [] }
+pilot r = record { g = 0; size = 1; entries = r ∷ [] }
 
 abbrev zeros : ℕ → ℤ
 zeros i = pos 0
 
 abbrev radius_at : ℤ → ℤ → ℤ → ℕ → ℕ → ℕ → ℕ
-radius_at r a d h b m = radius 1 0 h (pilot_word (pilot r)) (table a d) zeros b m 0
+radius_at r a d h b m = radius 1 0 h (pilot_entry (pilot r)) (table a d) zeros b m 0
 
 -- ---- R = 2^30 and a = 1 leave all but a 2^30th; the right side is 0 or 1
 pub parts_1 : parts_of 1 (table (pos 1) (pos 0)) (pilot (pos 1073741824)) 0 ≡ 1073741823

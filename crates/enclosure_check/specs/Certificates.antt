@@ -3,7 +3,7 @@
 use Rattle.std.specs.Prelude.{◌≡◌, ◌≤◌, ◌<◌, ◌^◌, ℕ, ℤ, List, length, slice_index_or}
 use Rattle.sys_model.specs.Systems.{Table, residual_interval, row_parts, row_error, radius}
 use Rattle.whole_numbers.specs.Intervals.{size, interval_shift}
-use Rattle.enclosures.specs.Pilots.{PilotTable, pilot_word}
+use Rattle.enclosures.specs.Pilots.{PilotTable, pilot_entry}
 use Rattle.enclosures.specs.declared.Radius.{Radius}
 use Rattle.stated_order.specs.First.{IsLeast}
 use Rattle.whole_numbers.specs.Least.{greatest_to}
@@ -14,11 +14,11 @@ ResidualFitsAfter n t y h = (i : ℕ) → i < n → size (interval_shift h (resi
 
 -- the defect of row i, in parts of 2^30: what the pilot times the table leaves of the identity
 abbrev pub parts_of : ℕ → Table → PilotTable → ℕ → ℕ
-parts_of n t p i = row_parts n p.g (pilot_word p) t i
+parts_of n t p i = row_parts n p.g (pilot_entry p) t i
 
 -- the error of row i: what the pilot makes of the residual of y, shifted by h
 abbrev pub error_of : ℕ → Table → PilotTable → (ℕ → ℤ) → ℕ → ℕ → ℕ
-error_of n t p y h i = row_error n p.g h (pilot_word p) t y i
+error_of n t p y h i = row_error n p.g h (pilot_entry p) t y i
 
 -- the certificate passes at y, and v has its numbers
 pub record IsCertified (n : ℕ) (t : Table) (p : PilotTable) (y : ℕ → ℤ) (v : Radius) : Type 0 where
@@ -29,7 +29,7 @@ pub record IsCertified (n : ℕ) (t : Table) (p : PilotTable) (y : ℕ → ℤ) 
   pub error_fits : v.m ≤ 2 ^ 66
   pub parts_fit : v.b < 2 ^ 30
   pub len : length v.w.items ≡ n
-  pub radii : (i : ℕ) → i < n → slice_index_or v.w.items i 0 ≡ radius n p.g h (pilot_word p) t y v.b v.m i
+  pub radii : (i : ℕ) → i < n → slice_index_or v.w.items i 0 ≡ radius n p.g h (pilot_entry p) t y v.b v.m i
 
 -- the error of this row, the first of more than 2^66, is this
 pub record IsResidual (n : ℕ) (t : Table) (p : PilotTable) (y : ℕ → ℤ) (row error : ℕ) : Type 0 where

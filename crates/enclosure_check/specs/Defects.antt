@@ -3,7 +3,7 @@ use Rattle.std.specs.Prelude.{◌≡◌, ◌≤◌, ◌<◌, ◌+◌, ◌*◌, �
 use Rattle.whole_numbers.specs.Sum.{unit}
 use Rattle.whole_numbers.specs.Intervals.{Interval, point_interval, interval_sub, interval_scale, sum_intervals, size}
 use Rattle.sys_model.specs.Systems.{Table}
-use Rattle.sym_blocks.specs.Tables.{SymTable, word, zero_interval}
+use Rattle.sym_blocks.specs.Tables.{SymTable, entry_at, zero_interval}
 use Rattle.whole_numbers.specs.Lists.{at, AllAtMost}
 
 -- the product of r with up, or with down where r is below 0
@@ -12,8 +12,8 @@ end_product (pos k) up down = pos k *ℤ up
 end_product (negsuc k) up down = negsuc k *ℤ down
 
 -- the interval from number k of low to number k of high
-abbrev pub word_between : List ℤ → List ℤ → ℕ → Interval
-word_between low high k = record { lo = at low k; hi = at high k }
+abbrev pub entry_between : List ℤ → List ℤ → ℕ → Interval
+entry_between low high k = record { lo = at low k; hi = at high k }
 
 -- the sum of the first n products of the numbers r and the intervals f
 abbrev pub products_to : ℕ → (ℕ → ℤ) → (ℕ → Interval) → Interval
@@ -34,8 +34,8 @@ clipped_left g i j w = min (size (interval_sub (point_interval (unit i (pos (2 ^
 
 -- the table whose interval in row k and column j has its ends in row j of low and high
 abbrev pub turned_table : ℕ → List ℤ → List ℤ → Table
-turned_table n low high = record { entry = λ k j. word_between low high (j * n + k); right = λ i. zero_interval }
+turned_table n low high = record { entry = λ k j. entry_between low high (j * n + k); right = λ i. zero_interval }
 
 -- low and high have the ends of the intervals of a, row by row
-abbrev pub HasWords : ℕ → SymTable → List ℤ → List ℤ → Type 0
-HasWords n a low high = (j k : ℕ) → j < n → k < n → word_between low high (j * n + k) ≡ word a j k
+abbrev pub HasEntries : ℕ → SymTable → List ℤ → List ℤ → Type 0
+HasEntries n a low high = (j k : ℕ) → j < n → k < n → entry_between low high (j * n + k) ≡ entry_at a j k

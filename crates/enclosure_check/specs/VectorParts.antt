@@ -2,10 +2,10 @@
 use Rattle.std.specs.Prelude.{◌≡◌, ◌≤◌, ◌<◌, ◌+◌, ◌-◌, ◌^◌, ℕ, suc, ℤ, ◌+ℤ◌, ◌*ℤ◌, ⊤, List, length}
 use Rattle.whole_numbers.specs.Quotients.{floor_over}
 use Rattle.whole_numbers.specs.Sum.{sum_to}
-use Rattle.sym_blocks.specs.Tables.{SymTable, word}
+use Rattle.sym_blocks.specs.Tables.{SymTable, entry_at}
 use Rattle.sys_model.specs.Systems.{Table}
 use Rattle.whole_numbers.specs.Lists.{at, AllAtMost}
-use Rattle.enclosures.specs.Pilots.{PilotTable, pilot_word}
+use Rattle.enclosures.specs.Pilots.{PilotTable, pilot_entry}
 use Rattle.enclosure_check.specs.ErrorParts.{IsVector}
 use Rattle.enclosure_check.specs.Vectors.{IsRefinement, midpoint_residual}
 use Rattle.enclosures.specs.Vectors.{IsSmall}
@@ -15,7 +15,7 @@ use Rattle.whole_numbers.specs.Intervals.{midpoint}
 
 -- the midpoint of the interval (i, j) times number j of the vector
 abbrev pub taken_midpoint : SymTable → List ℤ → ℕ → ℕ → ℤ
-taken_midpoint a y i j = midpoint (word a i j) *ℤ at y j
+taken_midpoint a y i j = midpoint (entry_at a i j) *ℤ at y j
 
 -- the numbers are the residual of y, by the midpoints of the intervals
 pub record AreMidpointResiduals (n : ℕ) (t : Table) (y : ℕ → ℤ) (qs : List ℤ) : Type 0 where
@@ -47,7 +47,7 @@ pub record AreShiftedNumbers (n : ℕ) (vs : List ℤ) : Type 0 where
 
 -- the correction of row i: what the pilot makes of the numbers vs, which were shifted by h
 abbrev pub correction_at : PilotTable → List ℤ → ℕ → ℕ → ℤ
-correction_at p vs h i = floor_over (sum_to p.size (λ k. pilot_word p i k *ℤ at vs k)) (2 ^ (p.g + 60 - h))
+correction_at p vs h i = floor_over (sum_to p.size (λ k. pilot_entry p i k *ℤ at vs k)) (2 ^ (p.g + 60 - h))
 
 -- number i of y and its correction
 abbrev pub corrected_at : PilotTable → List ℤ → List ℤ → ℕ → ℕ → ℤ

@@ -6,7 +6,7 @@ use Rattle.whole_numbers.specs.Sum.{sum_to}
 use Rattle.enclosures.specs.Vectors.{IsSmall}
 use Rattle.whole_numbers.specs.Quotients.{floor_over}
 use Rattle.sys_model.specs.Systems.{Table}
-use Rattle.enclosures.specs.Pilots.{PilotTable, pilot_word}
+use Rattle.enclosures.specs.Pilots.{PilotTable, pilot_entry}
 use Rattle.whole_numbers.specs.Intervals.{midpoint}
 use Rattle.stated_order.specs.First.{IsLeast}
 
@@ -20,7 +20,7 @@ AllFitAfter n q h = (i : ℕ) → i < n → unsigned_abs (floor_over (q i) (2 ^ 
 
 -- y with its correction added, which is what the pilot makes of the numbers q over 2^h
 abbrev pub corrected : ℕ → PilotTable → (ℕ → ℤ) → ℕ → (ℕ → ℤ) → ℕ → ℤ
-corrected n p q h y i = y i +ℤ floor_over (sum_to n (λ k. pilot_word p i k *ℤ floor_over (q k) (2 ^ h))) (2 ^ (p.g + 60 - h))
+corrected n p q h y i = y i +ℤ floor_over (sum_to n (λ k. pilot_entry p i k *ℤ floor_over (q k) (2 ^ h))) (2 ^ (p.g + 60 - h))
 
 -- one step of iterative refinement leads from y to z
 pub record IsRefinement (n : ℕ) (t : Table) (p : PilotTable) (y z : ℕ → ℤ) : Type 0 where

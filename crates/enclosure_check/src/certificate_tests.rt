@@ -30,7 +30,7 @@ fn one_row<R: Threads + Sync, const N: usize>(
         d: vec![in alloc; Iv::point(d.min(LIMIT).cast_signed()); 1]?,
         e: vec![in alloc; 0; 1]?,
     };
-    let p = match Pilot::from_words(0, 1, vec![in alloc; r; 1]?) {
+    let p = match Pilot::from_entries(0, 1, vec![in alloc; r; 1]?) {
         Some(p) => p,
         None => return Err(AllocError),
     };

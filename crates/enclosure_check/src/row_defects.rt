@@ -5,12 +5,12 @@ ghost use Rattle.std.specs.Int.{w128};
 ghost use Rattle.whole_numbers.specs.Quotients.{up_over};
 ghost use Rattle.whole_numbers.specs.Sum.{unit};
 ghost use Rattle.whole_numbers.specs.Intervals.{Interval, point_interval, interval_add, interval_sub, interval_scale, size};
-ghost use Rattle.sym_blocks.specs.Tables.{word};
+ghost use Rattle.sym_blocks.specs.Tables.{entry_at};
 ghost use Rattle.whole_numbers.specs.Lists.{at, AllAtMost};
 ghost use Rattle.equil.specs.Tables.{table_of};
 ghost use Rattle.enclosure_check.specs.Certificates.{AreDefects, parts_of};
 ghost use Rattle.enclosure_check.specs.Inputs.{IsWorkingTable};
-ghost use Rattle.enclosure_check.specs.Defects.{end_product, word_between, products_to, clipped_left, turned_table, AreRows, HasWords};
+ghost use Rattle.enclosure_check.specs.Defects.{end_product, entry_between, products_to, clipped_left, turned_table, AreRows, HasEntries};
 
 use enclosures::Pilot;
 use equil::Working;
@@ -79,7 +79,7 @@ fn scaled(r: i64, low: i64, high: i64) -> Ends
 /// The sum of the products of the numbers of a row and the intervals from `low` to `high`.
 fn products(r: &[i64], low: &[i64], high: &[i64]) -> Ends
     requires { AreRows r.now low.now high.now }
-    ensures value { result ≡ products_to (length r.now) (at r.now) (word_between low.now high.now) }
+    ensures value { result ≡ products_to (length r.now) (at r.now) (entry_between low.now high.now) }
     ensures small { size result ≤ 2 ^ 121 }
 {
     let mut sum = Ends { lo: 0, hi: 0 };
@@ -118,22 +118,22 @@ fn parts(total: u128, g: u32) -> u64
 
 /// The ends of the interval of a pair.
 fn ends_at<const N: usize>(a: &SymBlock<N>, j: usize, k: usize) -> (i64, i64)
-    requires words { IsWorkingTable a.now }
+    requires entries { IsWorkingTable a.now }
     requires row { j < a.now.size }
     requires column { k < a.now.size }
-    ensures low { result.0 ≡ (word a.now j k).lo }
-    ensures high { result.1 ≡ (word a.now j k).hi }
+    ensures low { result.0 ≡ (entry_at a.now j k).lo }
+    ensures high { result.1 ≡ (entry_at a.now j k).hi }
 {
-    let word = a.get(j, k);
-    (word.lo() as i64, word.hi() as i64)
+    let interval = a.get(j, k);
+    (interval.lo() as i64, interval.hi() as i64)
 }
 
 /// The products of a number and the interval of a pair.
 fn scaled_at<const N: usize>(a: &SymBlock<N>, r: i64, k: usize, j: usize) -> Ends
-    requires words { IsWorkingTable a.now }
+    requires entries { IsWorkingTable a.now }
     requires row { k < a.now.size }
     requires column { j < a.now.size }
-    ensures { result ≡ interval_scale r (word a.now k j) }
+    ensures { result ≡ interval_scale r (entry_at a.now k j) }
 {
     let (low, high) = ends_at(a, k, j);
     scaled(r, low, high)
@@ -141,11 +141,11 @@ fn scaled_at<const N: usize>(a: &SymBlock<N>, r: i64, k: usize, j: usize) -> End
 
 /// The sum of the products of the numbers of a row and the intervals of column `j`.
 fn column_products<const N: usize>(a: &SymBlock<N>, r: &[i64], j: usize) -> Ends
-    requires words { IsWorkingTable a.now }
+    requires entries { IsWorkingTable a.now }
     requires len { length r.now ≡ a.now.size }
     requires numbers { AllAtMost (2 ^ 50) r.now }
     requires column { j < a.now.size }
-    ensures value { result ≡ products_to a.now.size (at r.now) (λ k. word a.now k j) }
+    ensures value { result ≡ products_to a.now.size (at r.now) (λ k. entry_at a.now k j) }
     ensures small { size result ≤ 2 ^ 121 }
 {
     let mut sum = Ends { lo: 0, hi: 0 };
@@ -187,7 +187,7 @@ impl Squares {
     fn of<const N: usize>(alloc: Global, a: &SymBlock<N>) -> Result<Squares, AllocError>
         requires { IsWorkingTable a.now }
         ensures size { IfOk result (λ s. s.low.size ≡ a.now.size) }
-        ensures words { IfOk result (λ s. HasWords a.now.size a.now s.low.numbers s.high.numbers) }
+        ensures entries { IfOk result (λ s. HasEntries a.now.size a.now s.low.numbers s.high.numbers) }
     {
         let size = a.size();
         let mut low = Vec::new(alloc);
@@ -208,7 +208,7 @@ impl Squares {
         requires len { length r.now ≡ self.now.low.size }
         requires numbers { AllAtMost (2 ^ 50) r.now }
         requires row { j < self.now.low.size }
-        ensures value { result ≡ products_to self.now.low.size (at r.now) (λ k. word_between self.now.low.numbers self.now.high.numbers (j * self.now.low.size + k)) }
+        ensures value { result ≡ products_to self.now.low.size (at r.now) (λ k. entry_between self.now.low.numbers self.now.high.numbers (j * self.now.low.size + k)) }
         ensures small { size result ≤ 2 ^ 121 }
     {
         products(r, self.low.row(j), self.high.row(j))
@@ -236,7 +236,7 @@ pub fn defects<const N: usize>(
     a: &SymBlock<N>,
     p: &Pilot,
 ) -> Result<Vec<u64>, AllocError>
-    requires words { IsWorkingTable a.now }
+    requires entries { IsWorkingTable a.now }
     requires sizes { p.now.size ≡ a.now.size }
     ensures { IfOk result (λ v. (d : List Interval) → AreDefects a.now.size (table_of a.now d) p.now v.items) }
 {

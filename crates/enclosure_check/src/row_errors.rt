@@ -7,7 +7,7 @@ ghost use Rattle.whole_numbers.specs.Lists.{at};
 ghost use Rattle.equil.specs.Tables.{table_of};
 ghost use Rattle.enclosure_check.specs.Certificates.{AreErrors};
 ghost use Rattle.enclosure_check.specs.Inputs.{IsWorkingTable, IsRightSide};
-ghost use Rattle.enclosure_check.specs.ErrorParts.{IsVector, taken_interval, AreResiduals, FitAfter, AreShifted, IsRowByWords, part_interval, word_at, AreShiftedResiduals, shifted_error, AreShiftedErrors};
+ghost use Rattle.enclosure_check.specs.ErrorParts.{IsVector, taken_interval, AreResiduals, FitAfter, AreShifted, IsRowByEntries, part_interval, nth_entry, AreShiftedResiduals, shifted_error, AreShiftedErrors};
 ghost use Rattle.enclosures.specs.Vectors.{IsSmall};
 ghost use Rattle.stated_order.specs.First.{IsLeast};
 
@@ -24,16 +24,16 @@ const SHIFTED_LIMIT: u128 = 1 << 66;
 pub const MOST_SHIFT: u32 = 60;
 
 /// The interval at `k`.
-pub fn word_at(words: &[Iv], k: usize) -> Iv
-    requires { k < length words.now }
-    ensures { result ≡ word_at words.now k }
+pub fn nth_entry(entries: &[Iv], k: usize) -> Iv
+    requires { k < length entries.now }
+    ensures { result ≡ nth_entry entries.now k }
 {
-    words[k]
+    entries[k]
 }
 
 /// What number `j` of the vector takes of row `i`.
 fn taken_interval<const N: usize>(a: &SymBlock<N>, y: &[i128], i: usize, j: usize) -> Iv
-    requires words { IsWorkingTable a.now }
+    requires entries { IsWorkingTable a.now }
     requires vector { IsVector a.now.size y.now }
     requires row { i < a.now.size }
     requires column { j < a.now.size }
@@ -44,7 +44,7 @@ fn taken_interval<const N: usize>(a: &SymBlock<N>, y: &[i128], i: usize, j: usiz
 
 /// What the vector takes of row `i`.
 fn taken<const N: usize>(a: &SymBlock<N>, y: &[i128], i: usize) -> Iv
-    requires words { IsWorkingTable a.now }
+    requires entries { IsWorkingTable a.now }
     requires vector { IsVector a.now.size y.now }
     requires row { i < a.now.size }
     ensures value { result ≡ sum_intervals a.now.size (taken_interval a.now y.now i) }
@@ -59,14 +59,14 @@ fn taken<const N: usize>(a: &SymBlock<N>, y: &[i128], i: usize) -> Iv
 
 /// The residual of the vector in row `i`.
 fn residual_interval<const N: usize>(a: &SymBlock<N>, d: &[Iv], y: &[i128], i: usize) -> Iv
-    requires words { IsWorkingTable a.now }
+    requires entries { IsWorkingTable a.now }
     requires rights { IsRightSide a.now.size d.now }
     requires vector { IsVector a.now.size y.now }
     requires row { i < a.now.size }
     ensures value { result ≡ residual_interval a.now.size (table_of a.now d.now) (at y.now) i }
     ensures bound { size result ≤ 2 ^ 126 }
 {
-    word_at(d, i).sub(&taken(a, y, i))
+    nth_entry(d, i).sub(&taken(a, y, i))
 }
 
 /// The residual of the vector, row by row.
@@ -76,25 +76,25 @@ fn residual_intervals<const N: usize>(
     d: &[Iv],
     y: &[i128],
 ) -> Result<Vec<Iv>, AllocError>
-    requires words { IsWorkingTable a.now }
+    requires entries { IsWorkingTable a.now }
     requires rights { IsRightSide a.now.size d.now }
     requires vector { IsVector a.now.size y.now }
     ensures { IfOk result (λ v. AreResiduals a.now.size (table_of a.now d.now) (at y.now) v.items) }
 {
-    let mut words = Vec::new(alloc);
+    let mut entries = Vec::new(alloc);
     for i in 0..a.size() {
-        words.push(residual_interval(a, d, y, i))?;
+        entries.push(residual_interval(a, d, y, i))?;
     }
-    Ok(words)
+    Ok(entries)
 }
 
 /// Whether each interval is at most 2^66 in size after an outward shift by `h`.
-fn fit_after(words: &[Iv], h: u32) -> bool
+fn fit_after(entries: &[Iv], h: u32) -> bool
     requires { h ≤ 60 }
-    ensures { IsTrue result ↔ FitAfter words.now h }
+    ensures { IsTrue result ↔ FitAfter entries.now h }
 {
-    for k in 0..words.len() {
-        if word_at(words, k).shift_out(h).mag() > SHIFTED_LIMIT {
+    for k in 0..entries.len() {
+        if nth_entry(entries, k).shift_out(h).mag() > SHIFTED_LIMIT {
             return false;
         }
     }
@@ -102,43 +102,43 @@ fn fit_after(words: &[Iv], h: u32) -> bool
 }
 
 /// The least outward shift after which each interval is at most 2^66 in size.
-fn least_shift(words: &[Iv]) -> u32
-    requires { (k : ℕ) → k < length words.now → size (word_at words.now k) ≤ 2 ^ 126 }
+fn least_shift(entries: &[Iv]) -> u32
+    requires { (k : ℕ) → k < length entries.now → size (nth_entry entries.now k) ≤ 2 ^ 126 }
     ensures few { result ≤ 60 }
-    ensures least { IsLeast (FitAfter words.now) result }
+    ensures least { IsLeast (FitAfter entries.now) result }
 {
-    least_passed(MOST_SHIFT, |h| fit_after(words, h))
+    least_passed(MOST_SHIFT, |h| fit_after(entries, h))
 }
 
 /// The intervals after an outward shift by `h`.
-fn shifted_words(alloc: Global, words: &[Iv], h: u32) -> Result<Vec<Iv>, AllocError>
+fn shifted_entries(alloc: Global, entries: &[Iv], h: u32) -> Result<Vec<Iv>, AllocError>
     requires { h ≤ 60 }
-    ensures { IfOk result (λ v. AreShifted h words.now v.items) }
+    ensures { IfOk result (λ v. AreShifted h entries.now v.items) }
 {
     let mut shifted = Vec::new(alloc);
-    for k in 0..words.len() {
-        shifted.push(word_at(words, k).shift_out(h))?;
+    for k in 0..entries.len() {
+        shifted.push(nth_entry(entries, k).shift_out(h))?;
     }
     Ok(shifted)
 }
 
 /// The product of number `k` of a row of the pilot and interval `k`.
-fn part_interval(row: &[i64], words: &[Iv], k: usize) -> Iv
-    requires sizes { IsRowByWords row.now words.now }
-    requires within { k < length words.now }
-    ensures { result ≡ part_interval row.now words.now k }
+fn part_interval(row: &[i64], entries: &[Iv], k: usize) -> Iv
+    requires sizes { IsRowByEntries row.now entries.now }
+    requires within { k < length entries.now }
+    ensures { result ≡ part_interval row.now entries.now k }
 {
-    word_at(words, k).mul_small(i128::from(row[k]))
+    nth_entry(entries, k).mul_small(i128::from(row[k]))
 }
 
 /// What a row of the pilot makes of the intervals.
-fn row_by_words(row: &[i64], words: &[Iv]) -> Iv
-    requires { IsRowByWords row.now words.now }
-    ensures { result ≡ sum_intervals (length words.now) (part_interval row.now words.now) }
+fn row_by_entries(row: &[i64], entries: &[Iv]) -> Iv
+    requires { IsRowByEntries row.now entries.now }
+    ensures { result ≡ sum_intervals (length entries.now) (part_interval row.now entries.now) }
 {
     let mut sum = Iv::point(0);
-    for k in 0..words.len() {
-        sum = sum.add(&part_interval(row, words, k));
+    for k in 0..entries.len() {
+        sum = sum.add(&part_interval(row, entries, k));
     }
     sum
 }
@@ -154,26 +154,26 @@ fn two_to(k: u32) -> u128
 }
 
 /// The error of row `i`: what the pilot makes of the intervals that were shifted by `h`, rounded up.
-fn row_error(p: &Pilot, words: &[Iv], h: u32, i: usize) -> u128
-    requires sizes { AreShiftedResiduals p.now.size words.now }
+fn row_error(p: &Pilot, entries: &[Iv], h: u32, i: usize) -> u128
+    requires sizes { AreShiftedResiduals p.now.size entries.now }
     requires few { h ≤ 60 }
     requires row { i < p.now.size }
-    ensures { result ≡ shifted_error p.now words.now h i }
+    ensures { result ≡ shifted_error p.now entries.now h i }
 {
-    row_by_words(p.row(i), words)
+    row_by_entries(p.row(i), entries)
         .mag()
         .div_ceil(two_to(p.g() + 60 - h))
 }
 
 /// The errors of all rows, from what the vector leaves shifted by `h`.
-fn errors_of(alloc: Global, p: &Pilot, words: &[Iv], h: u32) -> Result<Vec<u128>, AllocError>
-    requires sizes { AreShiftedResiduals p.now.size words.now }
+fn errors_of(alloc: Global, p: &Pilot, entries: &[Iv], h: u32) -> Result<Vec<u128>, AllocError>
+    requires sizes { AreShiftedResiduals p.now.size entries.now }
     requires few { h ≤ 60 }
-    ensures { IfOk result (λ v. AreShiftedErrors p.now words.now h v.items) }
+    ensures { IfOk result (λ v. AreShiftedErrors p.now entries.now h v.items) }
 {
     let mut errors = Vec::new(alloc);
     for i in 0..p.size() {
-        errors.push(row_error(p, words, h, i))?;
+        errors.push(row_error(p, entries, h, i))?;
     }
     Ok(errors)
 }
@@ -187,15 +187,15 @@ pub fn errors<const N: usize>(
     p: &Pilot,
     y: &[i128],
 ) -> Result<Vec<u128>, AllocError>
-    requires words { IsWorkingTable a.now }
+    requires entries { IsWorkingTable a.now }
     requires rights { IsRightSide a.now.size d.now }
     requires sizes { p.now.size ≡ a.now.size }
     requires len { length y.now ≡ a.now.size }
     requires small { IsSmall a.now.size (at y.now) }
     ensures { IfOk result (λ v. AreErrors a.now.size (table_of a.now d.now) p.now (at y.now) v.items) }
 {
-    let words = residual_intervals(alloc, a, d, y)?;
-    let h = least_shift(&words);
-    let shifted = shifted_words(alloc, &words, h)?;
+    let entries = residual_intervals(alloc, a, d, y)?;
+    let h = least_shift(&entries);
+    let shifted = shifted_entries(alloc, &entries, h)?;
     errors_of(alloc, p, &shifted, h)
 }

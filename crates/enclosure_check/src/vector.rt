@@ -13,7 +13,7 @@ ghost use Rattle.enclosure_check.specs.declared.VectorError.TheVariants.{Memory}
 ghost use Rattle.stated_order.specs.First.{IsLeast};
 
 use crate::VectorError;
-use crate::row_errors::{MOST_SHIFT, word_at};
+use crate::row_errors::{MOST_SHIFT, nth_entry};
 use enclosures::Pilot;
 use equil::Working;
 use std::alloc::{AllocError, AllocFailed, Global};
@@ -75,7 +75,7 @@ fn midpoint_residual<const N: usize>(w: &Working<N>, y: &[i128], i: usize) -> i1
     ensures value { result ≡ midpoint_residual w.now.a.size (table_of w.now.a w.now.d.items) (at y.now) i }
     ensures bound { unsigned_abs result ≤ 2 ^ 126 }
 {
-    word_at(&w.d, i).mid() - taken(w, y, i)
+    nth_entry(&w.d, i).mid() - taken(w, y, i)
 }
 
 /// The residual of the vector, row by row.

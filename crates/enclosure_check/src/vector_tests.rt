@@ -14,10 +14,10 @@ fn one_row<const N: usize>(alloc: Global) -> Result<bool, VectorError> {
     let mut table = SymBlock::<N>::zero(alloc, 1)?;
     table.set(0, 0, Iv::point(4_000_000_000_000_000_000));
     let rights = [Iv::point(2_000_000_000_000_000_000)];
-    let words = vec![in alloc; 31_691_265_005_706i64; 1]?;
+    let entries = vec![in alloc; 31_691_265_005_706i64; 1]?;
     match (
         working(alloc, &table, &rights),
-        Pilot::from_words(40, 1, words),
+        Pilot::from_entries(40, 1, entries),
     ) {
         (Ok(w), Some(p)) => {
             let y = start_vector(alloc, &w, &p)?;
@@ -40,12 +40,12 @@ fn two_rows<const N: usize>(alloc: Global) -> Result<bool, VectorError> {
     table.set(0, 0, Iv::point(1_000_000_000_000_000_000));
     table.set(1, 1, Iv::point(1_000_000_000_000_000_000));
     let rights = [Iv::point(1), Iv::point(100_000_000_000)];
-    let mut words = vec![in alloc; 0i64; 4]?;
-    words[0] = 1_125_899_906_842_624;
-    words[3] = 1_125_899_906_842_624;
+    let mut entries = vec![in alloc; 0i64; 4]?;
+    entries[0] = 1_125_899_906_842_624;
+    entries[3] = 1_125_899_906_842_624;
     match (
         working(alloc, &table, &rights),
-        Pilot::from_words(0, 2, words),
+        Pilot::from_entries(0, 2, entries),
     ) {
         (Ok(w), Some(p)) => Ok(
             start_vector(alloc, &w, &p).err() == Some(VectorError::Range { row: 1 }),

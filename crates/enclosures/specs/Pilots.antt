@@ -12,14 +12,14 @@ pub record IsPilotScale (g : ℕ) : Type 0 where
 pub record PilotTable : Type 0 where
   pub g : ℕ
   pub size : ℕ
-  pub words : List ℤ
+  pub entries : List ℤ
 
 -- the number of row i and column k
-abbrev pub pilot_word : PilotTable → ℕ → ℕ → ℤ
-pilot_word p i k = grid p.size p.words i k
+abbrev pub pilot_entry : PilotTable → ℕ → ℕ → ℤ
+pilot_entry p i k = grid p.size p.entries i k
 
 -- what each pilot keeps
 pub record IsPilotTable (p : PilotTable) : Type 0 where
   pub scale : IsPilotScale p.g
-  pub square : length p.words ≡ p.size * p.size
-  pub small : AllAtMost (2 ^ 50) p.words
+  pub square : length p.entries ≡ p.size * p.size
+  pub small : AllAtMost (2 ^ 50) p.entries

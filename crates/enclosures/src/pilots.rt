@@ -1,7 +1,7 @@
 //! The type of an approximate inverse.
 
 ghost use Rattle.std.specs.Prelude.{◌≡◌, ◌≤◌, ◌<◌, ◌+◌, ◌*◌, ◌^◌, ℕ, ℤ, List, length, unsigned_abs, SomeIff, IsTrue, ◌↔◌};
-ghost use Rattle.enclosures.specs.Pilots.{PilotTable, IsPilotScale, IsPilotTable, pilot_word};
+ghost use Rattle.enclosures.specs.Pilots.{PilotTable, IsPilotScale, IsPilotTable, pilot_entry};
 ghost use Rattle.whole_numbers.specs.Lists.{at, AllAtMost};
 
 use std::marker::Model;
@@ -15,7 +15,7 @@ const LIMIT: u64 = 1 << 50;
 pub struct Pilot {
     g: u32,
     size: usize,
-    words: Vec<i64>,
+    entries: Vec<i64>,
 }
 
 impl Model for Pilot {
@@ -23,9 +23,9 @@ impl Model for Pilot {
 
     ghost Value = { PilotTable };
 
-    ghost view = { λ p. record { g = p.g; size = p.size; words = p.words.items } };
+    ghost view = { λ p. record { g = p.g; size = p.size; entries = p.entries.items } };
 
-    ghost invariant = { λ p. IsPilotTable (record { g = p.g; size = p.size; words = p.words.items }) };
+    ghost invariant = { λ p. IsPilotTable (record { g = p.g; size = p.size; entries = p.entries.items }) };
 }
 
 /// Whether a pilot may have this scale.
@@ -36,11 +36,11 @@ fn is_scale(g: u32) -> bool
 }
 
 /// Whether no number passes 2^50 in size.
-fn are_small(words: &[i64]) -> bool
-    ensures { IsTrue result ↔ AllAtMost (2 ^ 50) words.now }
+fn are_small(entries: &[i64]) -> bool
+    ensures { IsTrue result ↔ AllAtMost (2 ^ 50) entries.now }
 {
-    for k in 0..words.len() {
-        if words[k].unsigned_abs() > LIMIT {
+    for k in 0..entries.len() {
+        if entries[k].unsigned_abs() > LIMIT {
             return false;
         }
     }
@@ -48,21 +48,21 @@ fn are_small(words: &[i64]) -> bool
 }
 
 impl Pilot {
-    /// The pilot with these numbers, row by row. `from_words` tests what is required here.
-    pub fn new(g: u32, size: usize, words: Vec<i64>) -> Pilot
-        requires { IsPilotTable (record { g = g; size = size; words = words.items }) }
-        ensures { result ≡ record { g = g; size = size; words = words.items } }
+    /// The pilot with these numbers, row by row. `from_entries` tests what is required here.
+    pub fn new(g: u32, size: usize, entries: Vec<i64>) -> Pilot
+        requires { IsPilotTable (record { g = g; size = size; entries = entries.items }) }
+        ensures { result ≡ record { g = g; size = size; entries = entries.items } }
     {
-        Pilot { g, size, words }
+        Pilot { g, size, entries }
     }
 
     /// The pilot with these numbers, row by row, and None exactly where `g` is no scale, a number passes 2^50 in size, or
     /// there are not `size * size` numbers.
-    pub fn from_words(g: u32, size: usize, words: Vec<i64>) -> Option<Pilot>
-        ensures { SomeIff result (IsPilotTable (record { g = g; size = size; words = words.items })) (record { g = g; size = size; words = words.items }) }
+    pub fn from_entries(g: u32, size: usize, entries: Vec<i64>) -> Option<Pilot>
+        ensures { SomeIff result (IsPilotTable (record { g = g; size = size; entries = entries.items })) (record { g = g; size = size; entries = entries.items }) }
     {
-        if is_scale(g) && size.checked_mul(size) == Some(words.len()) && are_small(&words) {
-            Some(Pilot { g, size, words })
+        if is_scale(g) && size.checked_mul(size) == Some(entries.len()) && are_small(&entries) {
+            Some(Pilot { g, size, entries })
         } else {
             None
         }
@@ -87,17 +87,17 @@ impl Pilot {
     pub fn row(&self, i: usize) -> &[i64]
         requires { i < self.now.size }
         ensures len { length result.now ≡ self.now.size }
-        ensures words { (k : ℕ) → k < self.now.size → at result.now k ≡ pilot_word self.now i k }
+        ensures entries { (k : ℕ) → k < self.now.size → at result.now k ≡ pilot_entry self.now i k }
         ensures small { AllAtMost (2 ^ 50) result.now }
     {
-        &self.words[i * self.size..(i + 1) * self.size]
+        &self.entries[i * self.size..(i + 1) * self.size]
     }
 
     /// The number of row `i` and column `k`.
-    pub fn word(&self, i: usize, k: usize) -> i64
+    pub fn entry(&self, i: usize, k: usize) -> i64
         requires row { i < self.now.size }
         requires column { k < self.now.size }
-        ensures value { result ≡ pilot_word self.now i k }
+        ensures value { result ≡ pilot_entry self.now i k }
         ensures small { unsigned_abs result ≤ 2 ^ 50 }
     {
         self.row(i)[k]

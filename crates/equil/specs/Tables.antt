@@ -3,13 +3,13 @@ use Rattle.std.specs.Prelude.{◌≡◌, ◌≤◌, ◌<◌, ◌^◌, ◌⊎◌,
 use Rattle.stated_order.specs.First.{HoldsLower, IsFirstFailure, IsFirstLowerFailure}
 use Rattle.whole_numbers.specs.Scaling.{interval_scale10}
 use Rattle.whole_numbers.specs.Intervals.{Interval, size}
-use Rattle.sym_blocks.specs.Tables.{SymTable, word, zero_interval}
+use Rattle.sym_blocks.specs.Tables.{SymTable, entry_at, zero_interval}
 use Rattle.sys_model.specs.Systems.{Table}
 use Rattle.equil.specs.Exponents.{IsExponent}
 
 -- the intervals of a symmetric table and of a right side
 abbrev pub table_of : SymTable → List Interval → Table
-table_of a d = record { entry = word a; right = λ i. slice_index_or d i zero_interval }
+table_of a d = record { entry = entry_at a; right = λ i. slice_index_or d i zero_interval }
 
 -- the exponents of a list
 abbrev pub exponent_of : List ℤ → ℕ → ℤ

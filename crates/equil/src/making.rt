@@ -3,7 +3,7 @@
 ghost use Rattle.std.specs.Prelude.{◌≡◌, ◌≤◌, ◌<◌, ◌^◌, ℕ, ℤ, length, slice_index_or, IfOk, IfErr};
 ghost use Rattle.std.specs.Vec.{vec_len};
 ghost use Rattle.whole_numbers.specs.Intervals.{Interval, size};
-ghost use Rattle.sym_blocks.specs.Tables.{SymTable, before, word, zero_interval};
+ghost use Rattle.sym_blocks.specs.Tables.{SymTable, before, entry_at, zero_interval};
 ghost use Rattle.equil.specs.Refusals.{IfRange};
 ghost use Rattle.equil.specs.Rows.{AllInRange};
 ghost use Rattle.equil.specs.Scaled.{CarriesSystems};
@@ -25,7 +25,7 @@ pub fn working<const N: usize>(
 ) -> Result<Working<N>, EquilError>
     requires { length right.now ≡ table.now.size }
     ensures size { IfOk result (λ w. w.a.size ≡ table.now.size) }
-    ensures list { IfOk result (λ w. length w.a.words ≡ before w.a.size) }
+    ensures list { IfOk result (λ w. length w.a.entries ≡ before w.a.size) }
     ensures working { IfOk result (λ w. IsWorking table.now.size (table_of table.now right.now) (table_of w.a w.d.items) (exponent_of w.e.items)) }
     ensures systems { IfOk result (λ w. CarriesSystems table.now.size (table_of table.now right.now) (table_of w.a w.d.items) (exponent_of w.e.items)) }
     ensures past { IfErr result (IfRange (IsFirstPast table.now.size (table_of table.now right.now))) }

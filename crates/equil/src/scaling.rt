@@ -1,8 +1,8 @@
-//! Words scaled within a bound, and whole rows of them.
+//! Entries scaled within a bound, and whole rows of them.
 
 ghost use Rattle.std.specs.Prelude.{◌≡◌, ◌≤◌, ◌<◌, ◌+◌, ◌*◌, ◌^◌, ℕ, ℤ, pos, negsuc, ◌-ℤ◌, neg_ℤ, ◌≤ℤ◌, List, length, slice_index_or, SomeIff, IfOk, IfErr, IfSome, IfNone};
 ghost use Rattle.std.specs.Vec.{vec_len};
-ghost use Rattle.sym_blocks.specs.Tables.{SymTable, before, word, zero_interval};
+ghost use Rattle.sym_blocks.specs.Tables.{SymTable, before, entry_at, zero_interval};
 ghost use Rattle.equil.specs.Exponents.{IsExponent, IsInRange};
 ghost use Rattle.equil.specs.Refusals.{IfRange};
 ghost use Rattle.equil.specs.Rows.{AllInRange, AreScaled, IsRowScaled, IsRightScaled, KeepsRows};
@@ -56,7 +56,7 @@ fn right_at(right: &[Iv], i: usize) -> Iv
 /// The exponents of the diagonal.
 pub fn exponents<const N: usize>(alloc: Global, table: &SymBlock<N>) -> Result<Vec<i32>, AllocError>
     ensures len { IfOk result (λ e. vec_len e ≡ table.now.size) }
-    ensures are { IfOk result (λ e. AreExponents table.now.size (word table.now) (exponent_of e.items)) }
+    ensures are { IfOk result (λ e. AreExponents table.now.size (entry_at table.now) (exponent_of e.items)) }
     ensures range { IfOk result (λ e. AllInRange e.items) }
 {
     let mut e = Vec::new(alloc);
@@ -72,7 +72,7 @@ fn entry_scaled<const N: usize>(table: &SymBlock<N>, e: &[i32], i: usize, j: usi
     requires range { AllInRange e.now }
     requires row { i < table.now.size }
     requires column { j < table.now.size }
-    ensures { SomeIff result (EntryFits (word table.now) (exponent_of e.now) i j) (working_entry (word table.now) (exponent_of e.now) i j) }
+    ensures { SomeIff result (EntryFits (entry_at table.now) (exponent_of e.now) i j) (working_entry (entry_at table.now) (exponent_of e.now) i j) }
 {
     table
         .get(i, j)
@@ -93,9 +93,9 @@ fn scale_row<const N: usize>(
     requires row { i < table.now.size }
     ensures size { a.new.size ≡ a.old.size }
     ensures kept { KeepsRows i a.old a.new }
-    ensures whole { IfNone result (IsRowScaled i (i + 1) a.new (word table.now) (exponent_of e.now)) }
-    ensures list { length a.old.words ≡ before a.old.size → length a.new.words ≡ before a.new.size }
-    ensures past { IfSome result (IsFirstFailure (i + 1) (EntryFits (word table.now) (exponent_of e.now) i)) }
+    ensures whole { IfNone result (IsRowScaled i (i + 1) a.new (entry_at table.now) (exponent_of e.now)) }
+    ensures list { length a.old.entries ≡ before a.old.size → length a.new.entries ≡ before a.new.size }
+    ensures past { IfSome result (IsFirstFailure (i + 1) (EntryFits (entry_at table.now) (exponent_of e.now) i)) }
 {
     for j in 0..i + 1 {
         match entry_scaled(table, e, i, j) {
@@ -115,9 +115,9 @@ pub fn scaled_table<const N: usize>(
     requires len { length e.now ≡ table.now.size }
     requires range { AllInRange e.now }
     ensures size { IfOk result (λ a. a.size ≡ table.now.size) }
-    ensures list { IfOk result (λ a. length a.words ≡ before a.size) }
-    ensures scaled { IfOk result (λ a. AreScaled table.now.size a (word table.now) (exponent_of e.now)) }
-    ensures past { IfErr result (IfRange (IsFirstLowerFailure table.now.size (EntryFits (word table.now) (exponent_of e.now)))) }
+    ensures list { IfOk result (λ a. length a.entries ≡ before a.size) }
+    ensures scaled { IfOk result (λ a. AreScaled table.now.size a (entry_at table.now) (exponent_of e.now)) }
+    ensures past { IfErr result (IfRange (IsFirstLowerFailure table.now.size (EntryFits (entry_at table.now) (exponent_of e.now)))) }
 {
     let size = table.size();
     let mut a = match SymBlock::zero(alloc, size) {

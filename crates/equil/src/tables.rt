@@ -3,7 +3,7 @@
 ghost use Rattle.std.specs.Prelude.{◌≡◌, ◌≤◌, ◌<◌, ◌^◌, ℕ, ℤ, slice_index_or};
 ghost use Rattle.std.specs.Vec.{vec_len};
 ghost use Rattle.whole_numbers.specs.Intervals.{Interval, size};
-ghost use Rattle.sym_blocks.specs.Tables.{SymTable, word, zero_interval};
+ghost use Rattle.sym_blocks.specs.Tables.{SymTable, entry_at, zero_interval};
 ghost use Rattle.equil.specs.Rows.{AllInRange};
 
 use interval_word::Iv;
@@ -22,7 +22,7 @@ pub struct Working<const N: usize> {
     ghost few: { a.size ≤ 1000 },
     ghost rows: { vec_len d ≡ a.size },
     ghost powers: { vec_len e ≡ a.size },
-    ghost words_small: { (i j : ℕ) → i < a.size → j < a.size → size (word a i j) ≤ 2 ^ 61 },
+    ghost entries_small: { (i j : ℕ) → i < a.size → j < a.size → size (entry_at a i j) ≤ 2 ^ 61 },
     ghost right_small: { (i : ℕ) → i < a.size → size (slice_index_or d.items i zero_interval) ≤ 10 ^ 37 },
     ghost in_range: { AllInRange e.items },
 }

@@ -2,7 +2,7 @@
 use Rattle.std.specs.Prelude.{◌≡◌, ◌≤◌, ℕ, ℤ, List, Option, Some, None, slice_get, slice_index_or}
 use Rattle.std.specs.List.{position_from}
 use Rattle.whole_numbers.specs.Intervals.{Interval, size}
-use Rattle.sym_blocks.specs.Tables.{SymTable, word, zero_interval}
+use Rattle.sym_blocks.specs.Tables.{SymTable, entry_at, zero_interval}
 use Rattle.decimal_e.specs.Decimals.{Decimal}
 use Rattle.param_ids.specs.Plain.{PlainId}
 use Rattle.param_ids.specs.Order.{is_same_id}
@@ -33,7 +33,7 @@ abbrev pub place_in : List PlainId → PlainId → Option ℕ
 place_in names id = position_from (is_same_id id) 0 names
 
 abbrev pub entry_at_places : SymTable → Option ℕ → Option ℕ → Interval
-entry_at_places table (Some i) (Some j) = word table i j
+entry_at_places table (Some i) (Some j) = entry_at table i j
 entry_at_places table i j = zero_interval
 
 abbrev pub right_at_place : List Interval → Option ℕ → Interval

@@ -28,7 +28,7 @@ neq_view neq = record { names = neq.names; table = neq.table; right = neq.right.
 pub record IsSound (neq : PlainNeq) : Type 0 where
   pub names : IsNames neq.names
   pub rows : neq.table.size ≡ length neq.names
-  pub words : length neq.table.words ≡ before neq.table.size
+  pub entries : length neq.table.entries ≡ before neq.table.size
   pub rights : length neq.right ≡ length neq.names
   pub values : length neq.apriori ≡ length neq.names
   pub named_units : length neq.units ≡ length neq.names

@@ -1,32 +1,32 @@
--- The exact systems of a document lie in its normal equations, and there is one.
-use Rattle.std.proofs.Common.{◌≡◌, ◌≤◌, ◌<◌, ◌+◌, ◌-◌, ◌*◌, ◌^◌, ◌∙◌, ℕ, suc, ℤ, pos, negsuc, ◌+ℤ◌, ◌-ℤ◌, ◌*ℤ◌, List, [], ◌∷◌, Ok, length, get_or, arith, sym, ap, subst}
-use Rattle.std.proofs.lemmas.List.{get_or-map}
+-- The exact systems of a document lie in its normal equations, there is one, and their multiples are exact.
+use Rattle.std.proofs.Common.{◌≡◌, ◌≤◌, ◌<◌, ◌+◌, ◌-◌, ◌*◌, ◌^◌, ◌∙◌, ℕ, suc, ℤ, pos, negsuc, neg_ℤ, ◌≤ℤ◌, ◌+ℤ◌, ◌*ℤ◌, Bool, true, false, cond, List, [], ◌∷◌, Option, Some, Ok, All, length, arith, sym, ap, subst}
+use Rattle.std.specs.List.{find}
+use Rattle.std.specs.Net.Reader.{map_or}
+use Rattle.std.proofs.Math.Nat.{mul-pos}
+use Rattle.std.proofs.lemmas.Int.{ints}
 use Rattle.std.proofs.lemmas.Nat.{pow-add}
-use Rattle.std.proofs.lemmas.Option.{slice_get-get_or, slice_get_within, get_or_from_slice_get}
-use Rattle.whole_numbers.specs.Lists.{at}
 use Rattle.whole_numbers.specs.Scaling.{ten_above, ten_below}
-use Rattle.whole_numbers.specs.Sum.{total_to}
 use Rattle.whole_numbers.proofs.EqualFractions.{holds_same}
 use Rattle.whole_numbers.proofs.Powers.{ten_pow_above}
-use Rattle.whole_numbers.proofs.Ring.{*ℤ_assoc}
-use Rattle.whole_numbers.proofs.Sums.{total_part}
+use Rattle.whole_numbers.proofs.Ring.{*ℤ_assoc, *ℤ_left_comm}
 use Rattle.decimal_e.specs.Decimals.{Decimal}
 use Rattle.decimal_e.specs.Fractions.{numerator, denominator, Means}
 use Rattle.decimal_e.specs.Scales.{decimal_interval}
 use Rattle.decimal_e.proofs.Values.{holds_word, ten_below_some}
-use Rattle.sym_blocks.specs.Tables.{word, zero_interval}
-use Rattle.equil.specs.Tables.{table_of}
-use Rattle.sys_model.specs.Scaling.{TimesPower, HoldsTimes, LiesInStack}
-use Rattle.sys_model.specs.Systems.{System}
+use Rattle.sys_model.specs.Scaling.{TimesPower, HoldsTimes}
 use Rattle.sys_model.proofs.ScalingLaws.{times_then}
 use Rattle.param_ids.specs.Plain.{PlainId}
 use Rattle.param_ids.specs.Tables.{ScaleMap}
+use Rattle.snx_rows.specs.declared.rows.Row.{Row}
+use Rattle.snx_matrices.specs.Elements.{IsPlaced}
+use Rattle.snx_matrices.specs.declared.elements.Cell.{Cell}
 use Rattle.snx_blocks.specs.Documents.{PlainDoc}
 use Rattle.neq_stack.specs.Neqs.{PlainNeq}
-use Rattle.recover_neq.specs.Blocks.{Blocks, blocks_in, matrix_of, vector_of}
+use Rattle.neq_stack.specs.Systems.{NamedSystem, LiesInNeq, multiple}
+use Rattle.recover_neq.specs.Blocks.{Blocks, blocks_in, zero_decimal, is_at, given_at, is_row_of, value_of, place_of, matrix_of, vector_of, weighted_entry, weighted_right}
 use Rattle.recover_neq.specs.Exact.{IsExact}
-use Rattle.recover_neq.specs.Recovery.{IsNeqOf, right_of, scale_of}
-use Rattle.recover_neq.proofs.RankLaws.{exponent_is}
+use Rattle.recover_neq.specs.Recovery.{IsNeqOf, entry_power, right_power, scale_of}
+use Rattle.recover_neq.proofs.EntryLaws.{entry_everywhere, right_everywhere}
 
 -- ---- the interval of a decimal holds what it means, times a power
 -- the fraction x / q is the mantissa times the power of the exponent
@@ -54,44 +54,34 @@ means_holds d x q k some m =
 same_blocks : (doc : PlainDoc) (one other : Blocks) → blocks_in doc ≡ Ok one → blocks_in doc ≡ Ok other → one ≡ other
 same_blocks doc one other a b = cc
 
--- a name of a list that has one
-pub some_name : (names : List PlainId) (k : ℕ) → k < length names → PlainId
-some_name [] k l = absurd (omega arith)
-some_name (id ∷ names) k l = id
+module _ (doc : PlainDoc) (weight : Decimal) (scales : ScaleMap) (blocks : Blocks) (neq : PlainNeq) (given : blocks_in doc ≡ Ok blocks) (placed : All (IsPlaced (length blocks.vector)) blocks.cells) (are : IsNeqOf blocks weight scales neq) (S : NamedSystem) where
+  pub exact_lies : IsExact doc weight S → LiesInNeq (scale_of scales) neq S
+  exact_lies exact =
+      let same : exact.blocks ≡ blocks = same_blocks doc exact.blocks blocks exact.has given in
+      record {
+        some = exact.some;
+        entries = λ one other.
+            let means : Means (weighted_entry blocks weight one other) (S.a one other) S.q = subst (λ b. Means (weighted_entry b weight one other) (S.a one other) S.q) same (exact.matrix one other) in
+            subst (λ w. HoldsTimes w (S.a one other) S.q (entry_power scales one other)) (sym (entry_everywhere blocks weight scales neq placed are one other))
+            (means_holds (weighted_entry blocks weight one other) (S.a one other) S.q (entry_power scales one other) exact.some means);
+        rights = λ id.
+            let means : Means (weighted_right blocks weight id) (S.c id) S.q = subst (λ b. Means (weighted_right b weight id) (S.c id) S.q) same (exact.right id) in
+            subst (λ w. HoldsTimes w (S.c id) S.q (right_power scales id)) (sym (right_everywhere blocks weight scales neq placed are id))
+            (means_holds (weighted_right blocks weight id) (S.c id) S.q (right_power scales id) exact.some means);
+      }
 
-same_power : (s t u v : ℤ) → s ≡ u → t ≡ v → pos 18 -ℤ s -ℤ t ≡ pos 18 -ℤ u -ℤ v
-same_power s t u v e f = ap (λ x. pos 18 -ℤ x -ℤ t) e ∙ ap (λ x. pos 18 -ℤ u -ℤ x) f
+-- ---- multiples
+means_multiple : (d : Decimal) (x : ℤ) (q k : ℕ) → Means d x q → Means d (pos k *ℤ x) (k * q)
+means_multiple d x q k m = *ℤ_left_comm (numerator d) (pos k) (pos q) ∙ ap (λ n. pos k *ℤ n) m ∙ sym (*ℤ_assoc (pos k) x (pos (denominator d)))
 
-module _ (doc : PlainDoc) (blocks : Blocks) (scales : ScaleMap) (neq : PlainNeq) (given : blocks_in doc ≡ Ok blocks) (are : IsNeqOf blocks scales neq) (S : System) where
-  module _ (exact : IsExact doc neq.names S) where
-    blocks_are : exact.blocks ≡ blocks
-    blocks_are = same_blocks doc exact.blocks blocks exact.has given
-
-    entry_holds : (i j : ℕ) → i < length neq.names → j < length neq.names → HoldsTimes (word neq.table i j) (S.a i j) S.q (pos 18 -ℤ at neq.scales i -ℤ at neq.scales j)
-    entry_holds i j li lj =
-        let d = some_name neq.names i li in
-        let one = get_or neq.names i d in
-        let other = get_or neq.names j d in
-        let here = slice_get-get_or neq.names i d li in
-        let there = slice_get-get_or neq.names j d lj in
-        let means : Means (matrix_of blocks one other) (S.a i j) S.q = subst (λ b. Means (matrix_of b one other) (S.a i j) S.q) blocks_are (exact.matrix i j one other here there) in
-        let power = same_power (at neq.scales i) (at neq.scales j) (scale_of scales one) (scale_of scales other) (exponent_is scales neq.names neq.scales i one are.exponents here) (exponent_is scales neq.names neq.scales j other are.exponents there) in
-        subst (λ k. HoldsTimes (word neq.table i j) (S.a i j) S.q k) (sym power)
-        (subst (λ w. HoldsTimes w (S.a i j) S.q (pos 18 -ℤ scale_of scales one -ℤ scale_of scales other)) (sym (are.entries i j one other here there))
-        (means_holds (matrix_of blocks one other) (S.a i j) S.q (pos 18 -ℤ scale_of scales one -ℤ scale_of scales other) exact.some means))
-
-    right_holds : (i : ℕ) → i < length neq.names → HoldsTimes (get_or neq.right i zero_interval) (S.c i) S.q (pos 18 -ℤ at neq.scales i)
-    right_holds i l =
-        let d = some_name neq.names i l in
-        let id = get_or neq.names i d in
-        let here = slice_get-get_or neq.names i d l in
-        let means : Means (vector_of blocks id) (S.c i) S.q = subst (λ b. Means (vector_of b id) (S.c i) S.q) blocks_are (exact.right i id here) in
-        let value : get_or neq.right i zero_interval ≡ right_of blocks scales id = ap (λ r. get_or r i zero_interval) are.right ∙ get_or-map (right_of blocks scales) neq.names i d zero_interval l in
-        subst (λ k. HoldsTimes (get_or neq.right i zero_interval) (S.c i) S.q k) (sym (ap (λ t. pos 18 -ℤ t) (exponent_is scales neq.names neq.scales i id are.exponents here)))
-        (subst (λ w. HoldsTimes w (S.c i) S.q (pos 18 -ℤ scale_of scales id)) (sym value) (means_holds (vector_of blocks id) (S.c i) S.q (pos 18 -ℤ scale_of scales id) exact.some means))
-
-    pub exact_lies : LiesInStack (length neq.names) (table_of neq.table neq.right) (at neq.scales) S
-    exact_lies = record { some = exact.some; entries = entry_holds; rights = right_holds }
+pub multiples_are_exact : (doc : PlainDoc) (weight : Decimal) (S : NamedSystem) (k : ℕ) → 0 < k → IsExact doc weight S → IsExact doc weight (multiple k S)
+multiples_are_exact doc weight S k some exact = record {
+  blocks = exact.blocks;
+  has = exact.has;
+  some = mul-pos some exact.some;
+  matrix = λ one other. means_multiple (weighted_entry exact.blocks weight one other) (S.a one other) S.q k (exact.matrix one other);
+  right = λ id. means_multiple (weighted_right exact.blocks weight id) (S.c id) S.q k (exact.right id);
+}
 
 -- ---- all numbers over one power of ten
 -- the denominator is ten to this
@@ -111,51 +101,68 @@ over most d = numerator d *ℤ pos (10 ^ (most - power_below d.exp))
 over_means : (most : ℕ) (d : Decimal) → power_below d.exp ≤ most → Means d (over most d) (10 ^ most)
 over_means most d l = ap (λ c. numerator d *ℤ pos c) (tens most d.exp l) ∙ sym (*ℤ_assoc (numerator d) (pos (10 ^ (most - power_below d.exp))) (pos (ten_below d.exp)))
 
--- each power is at most their sum
-le-total : (n : ℕ) (f : ℕ → ℕ) (k : ℕ) → k < n → f k ≤ total_to n f
-le-total n f k l = omega (arith, total_part n f (suc k) l)
+-- ---- each power is at most their sum
+cell_powers : List Cell → ℕ
+cell_powers [] = 0
+cell_powers (cell ∷ cells) = power_below cell.value.exp + cell_powers cells
 
-module _ (n : ℕ) (a : ℕ → ℕ → Decimal) (c : ℕ → Decimal) where
-  row_powers : ℕ → ℕ
-  row_powers i = total_to n (λ j. power_below (a i j).exp)
+row_powers : List Row → ℕ
+row_powers [] = 0
+row_powers (row ∷ rows) = power_below row.value.exp + row_powers rows
 
-  abbrev powers : ℕ
-  powers = total_to n row_powers + total_to n (λ i. power_below (c i).exp)
+picked_cell : (most : ℕ) (b : Bool) (cell : Cell) (o : Option Cell) → power_below cell.value.exp ≤ most → power_below (map_or o zero_decimal (λ (c : Cell). c.value)).exp ≤ most → power_below (map_or (cond b (Some cell) o) zero_decimal (λ (c : Cell). c.value)).exp ≤ most
+picked_cell most true cell o here there = here
+picked_cell most false cell o here there = there
 
-  entry_power : (i j : ℕ) → i < n → j < n → power_below (a i j).exp ≤ powers
-  unfolding row_powers
-  entry_power i j row column =
-      let in_row = le-total n (λ k. power_below (a i k).exp) j column in
-      let in_all = le-total n row_powers i row in
-      omega arith
+given_power : (cells : List Cell) (i j : ℕ) → power_below (given_at cells i j).exp ≤ cell_powers cells
+unfolding cell_powers
+given_power [] i j = omega arith
+given_power (cell ∷ cells) i j = let rest = given_power cells i j in picked_cell (power_below cell.value.exp + cell_powers cells) (is_at i j cell) cell (find (is_at i j) cells) (omega arith) (omega arith)
 
-  right_power : (i : ℕ) → i < n → power_below (c i).exp ≤ powers
-  right_power i row = let in_all = le-total n (λ k. power_below (c k).exp) i row in omega arith
+picked_row : (most : ℕ) (b : Bool) (row : Row) (o : Option Row) → power_below row.value.exp ≤ most → power_below (map_or o zero_decimal (λ (r : Row). r.value)).exp ≤ most → power_below (map_or (cond b (Some row) o) zero_decimal (λ (r : Row). r.value)).exp ≤ most
+picked_row most true row o here there = here
+picked_row most false row o here there = there
 
-  abbrev exact_system : System
-  exact_system = record { q = 10 ^ powers; a = λ i j. over powers (a i j); c = λ i. over powers (c i) }
+value_power : (rows : List Row) (id : PlainId) → power_below (value_of rows id).exp ≤ row_powers rows
+unfolding row_powers
+value_power [] id = omega arith
+value_power (row ∷ rows) id = let rest = value_power rows id in picked_row (power_below row.value.exp + row_powers rows) (is_row_of id row) row (find (is_row_of id) rows) (omega arith) (omega arith)
 
-module _ (doc : PlainDoc) (blocks : Blocks) (given : blocks_in doc ≡ Ok blocks) where
-  abbrev system_by : List PlainId → PlainId → System
-  system_by names d = exact_system (length names) (λ i j. matrix_of blocks (get_or names i d) (get_or names j d)) (λ i. vector_of blocks (get_or names i d))
+-- a number at least -most is below zero by most at most
+below_sum : (e : ℤ) (most : ℕ) → neg_ℤ (pos most) ≤ℤ e → power_below e ≤ most
+below_sum (pos x) most h = omega arith
+below_sum (negsuc x) most h = omega (arith, ints)
 
-  exact_by : (names : List PlainId) (d : PlainId) → IsExact doc names (system_by names d)
-  exact_by names d =
-      let a = λ (i j : ℕ). matrix_of blocks (get_or names i d) (get_or names j d) in
-      let c = λ (i : ℕ). vector_of blocks (get_or names i d) in
-      let most = powers (length names) a c in
-      record {
-        blocks = blocks;
-        has = given;
-        some = ten_pow_above most;
-        matrix = λ i j one other here there.
-            subst (λ x. Means (matrix_of blocks x other) (over most (a i j)) (10 ^ most)) (get_or_from_slice_get names i one d here)
-            (subst (λ x. Means (matrix_of blocks (get_or names i d) x) (over most (a i j)) (10 ^ most)) (get_or_from_slice_get names j other d there)
-            (over_means most (a i j) (entry_power (length names) a c i j (slice_get_within names i one here) (slice_get_within names j other there))));
-        right = λ i id here.
-            subst (λ x. Means (vector_of blocks x) (over most (c i)) (10 ^ most)) (get_or_from_slice_get names i id d here)
-            (over_means most (c i) (right_power (length names) a c i (slice_get_within names i id here)));
-      }
+sum_power : (a b : ℤ) (m : ℕ) → power_below b ≤ m → power_below (a +ℤ b) ≤ power_below a + m
+sum_power (pos x) (pos y) m h = below_sum (pos x +ℤ pos y) (0 + m) (omega (arith, ints))
+sum_power (pos x) (negsuc y) m h = below_sum (pos x +ℤ negsuc y) (0 + m) (omega (arith, ints))
+sum_power (negsuc x) (pos y) m h = below_sum (negsuc x +ℤ pos y) (suc x + m) (omega (arith, ints))
+sum_power (negsuc x) (negsuc y) m h = below_sum (negsuc x +ℤ negsuc y) (suc x + m) (omega (arith, ints))
 
-  pub exact_exists : (names : List PlainId) (k : ℕ) → k < length names → (S : System) × IsExact doc names S
-  exact_exists names k l = let d = some_name names k l in (system_by names d, exact_by names d)
+module _ (doc : PlainDoc) (weight : Decimal) (blocks : Blocks) (given : blocks_in doc ≡ Ok blocks) where
+  most_power : ℕ
+  most_power = power_below weight.exp + (cell_powers blocks.cells + row_powers blocks.vector)
+
+  entry_below : (one other : PlainId) → power_below (weighted_entry blocks weight one other).exp ≤ most_power
+  unfolding most_power
+  entry_below one other =
+      sum_power weight.exp (matrix_of blocks one other).exp (cell_powers blocks.cells + row_powers blocks.vector)
+      (let h = given_power blocks.cells (place_of blocks.vector one) (place_of blocks.vector other) in omega arith)
+
+  right_below : (id : PlainId) → power_below (weighted_right blocks weight id).exp ≤ most_power
+  unfolding most_power
+  right_below id =
+      sum_power weight.exp (vector_of blocks id).exp (cell_powers blocks.cells + row_powers blocks.vector)
+      (let h = value_power blocks.vector id in omega arith)
+
+  pub exact_exists : (S : NamedSystem) × IsExact doc weight S
+  exact_exists = (
+    record { q = 10 ^ most_power; a = λ one other. over most_power (weighted_entry blocks weight one other); c = λ id. over most_power (weighted_right blocks weight id) },
+    record {
+      blocks = blocks;
+      has = given;
+      some = ten_pow_above most_power;
+      matrix = λ one other. over_means most_power (weighted_entry blocks weight one other) (entry_below one other);
+      right = λ id. over_means most_power (weighted_right blocks weight id) (right_below id);
+    },
+  )

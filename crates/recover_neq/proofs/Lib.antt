@@ -1,10 +1,12 @@
 pub mod Alone
 pub mod CellLaws
 pub mod ColumnLaws
+pub mod EntryLaws
 pub mod LawExact
-pub mod MadeTables
 pub mod NameLaws
 pub mod NeqLaws
+pub mod ParameterLaws
 pub mod RankLaws
 pub mod RecoverLaws
 pub mod ShownLaws
+pub mod WeightLaws

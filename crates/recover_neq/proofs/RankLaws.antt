@@ -11,8 +11,7 @@ use Rattle.std.proofs.lemmas.List.Elements.{All-head, All-tail}
 use Rattle.std.proofs.lemmas.List.Sums.{position_or_len_is, prefix_len_stops}
 use Rattle.std.proofs.lemmas.Option.{slice_get-get_or, slice_get_within, get_or_from_slice_get, slice_get-map, slice_get_cases}
 use Rattle.whole_numbers.specs.Lists.{at}
-use Rattle.decimal_e.specs.Decimals.{Decimal}
-use Rattle.decimal_e.specs.Scales.{decimal_interval}
+use Rattle.decimal_e.specs.Decimals.{Decimal, product}
 use Rattle.param_ids.specs.Plain.{PlainId}
 use Rattle.param_ids.specs.Order.{is_same_id, IsRising}
 use Rattle.param_ids.specs.Tables.{ScaleMap}
@@ -20,9 +19,9 @@ use Rattle.param_ids.proofs.SameIds.{itself, same_id}
 use Rattle.snx_rows.specs.declared.rows.Row.{Row}
 use Rattle.snx_matrices.specs.Elements.{IsPlaced}
 use Rattle.snx_matrices.specs.declared.elements.Cell.{Cell}
-use Rattle.recover_neq.specs.Blocks.{Blocks, is_row_of, place_of, zero_decimal, is_at, given_at}
-use Rattle.recover_neq.specs.Recovery.{entry_of, scale_of}
-use Rattle.recover_neq.specs.Shown.{AreRanks, ranked, ranked_entry}
+use Rattle.recover_neq.specs.Blocks.{Blocks, is_row_of, place_of, zero_decimal, is_at, given_at, weighted_entry}
+use Rattle.recover_neq.specs.Recovery.{entry_power, scale_of}
+use Rattle.recover_neq.specs.Shown.{AreRanks, ranked, ranked_number, pair_power}
 use Rattle.recover_neq.proofs.NameLaws.{ids_in, apart_names, one_place, one_rank}
 
 passes_unless : (b : Bool) → not b ≡ false → b ≡ true
@@ -106,15 +105,16 @@ pub exponent_is : (scales : ScaleMap) (names : List PlainId) (exponents : List �
 exponent_is scales names exponents i one are is =
     ap (λ l. at l i) are ∙ get_or-map (scale_of scales) names i one (pos 0) (slice_get_within names i one is) ∙ ap (scale_of scales) (get_or_from_slice_get names i one one is)
 
-pub same_entry : (d : Decimal) (s t u v : ℤ) → s ≡ u → t ≡ v → decimal_interval d (pos 18 -ℤ s -ℤ t) ≡ decimal_interval d (pos 18 -ℤ u -ℤ v)
-same_entry d s t u v one other = ap (λ x. decimal_interval d (pos 18 -ℤ x -ℤ t)) one ∙ ap (λ x. decimal_interval d (pos 18 -ℤ u -ℤ x)) other
+pub same_powers : (s t u v : ℤ) → s ≡ u → t ≡ v → pos 18 -ℤ s -ℤ t ≡ pos 18 -ℤ u -ℤ v
+same_powers s t u v one other = ap (λ x. pos 18 -ℤ x -ℤ t) one ∙ ap (λ x. pos 18 -ℤ u -ℤ x) other
 
 module _ (blocks : Blocks) (scales : ScaleMap) (names : List PlainId) (ranks : List ℕ) (exponents : List ℤ) (p : IsPermutation (ids_in blocks.vector) names) (rising : IsRising names) (are : AreRanks names blocks.vector ranks) (scaled : exponents ≡ map (scale_of scales) names) where
-  pub entry_is : (i j : ℕ) (one other : PlainId) → All (IsPlaced (length blocks.vector)) blocks.cells → slice_get names i ≡ Some one → slice_get names j ≡ Some other → ranked_entry blocks.cells ranks exponents i j ≡ entry_of blocks scales one other
-  entry_is i j one other placed here there =
-      ap (λ d. decimal_interval d (pos 18 -ℤ at exponents i -ℤ at exponents j)) (given_same names blocks.vector ranks p rising are blocks.cells i j one other placed here there)
-      ∙ same_entry (given_at blocks.cells (place_of blocks.vector one) (place_of blocks.vector other)) (at exponents i) (at exponents j) (scale_of scales one) (scale_of scales other)
-      (exponent_is scales names exponents i one scaled here) (exponent_is scales names exponents j other scaled there)
+  pub number_is : (weight : Decimal) (i j : ℕ) (one other : PlainId) → All (IsPlaced (length blocks.vector)) blocks.cells → slice_get names i ≡ Some one → slice_get names j ≡ Some other → ranked_number weight blocks.cells ranks i j ≡ weighted_entry blocks weight one other
+  number_is weight i j one other placed here there = ap (product weight) (given_same names blocks.vector ranks p rising are blocks.cells i j one other placed here there)
+
+  pub power_is : (i j : ℕ) (one other : PlainId) → slice_get names i ≡ Some one → slice_get names j ≡ Some other → pair_power exponents i j ≡ entry_power scales one other
+  power_is i j one other here there =
+      same_powers (at exponents i) (at exponents j) (scale_of scales one) (scale_of scales other) (exponent_is scales names exponents i one scaled here) (exponent_is scales names exponents j other scaled there)
 
   -- no place of a row is past the names
   pub ranks_within : All (λ rank. rank < length exponents) ranks

@@ -5,21 +5,19 @@ use Rattle.std.specs.Net.Reader.{map_or}
 use Rattle.std.proofs.lemmas.List.{get_or-map, length-map}
 use Rattle.std.proofs.lemmas.Option.{slice_get_within, get_or_from_slice_get}
 use Rattle.whole_numbers.specs.Intervals.{Interval}
-use Rattle.whole_numbers.specs.Lists.{at}
-use Rattle.decimal_e.specs.Decimals.{Decimal}
-use Rattle.decimal_e.specs.Scales.{decimal_interval}
-use Rattle.sym_blocks.specs.Tables.{SymTable, word, before, zero_interval}
+use Rattle.decimal_e.specs.Decimals.{Decimal, product}
+use Rattle.sym_blocks.specs.Tables.{SymTable, entry_at, before, zero_interval}
 use Rattle.param_ids.specs.Plain.{PlainId}
 use Rattle.param_ids.specs.Order.{IsNames}
 use Rattle.param_ids.specs.Tables.{ScaleMap}
 use Rattle.snx_rows.specs.declared.rows.Row.{Row}
 use Rattle.snx_matrices.specs.Elements.{IsPlaced}
 use Rattle.snx_matrices.specs.declared.elements.Cell.{Cell}
-use Rattle.recover_neq.specs.Blocks.{Blocks, zero_decimal, row_of, value_of}
-use Rattle.recover_neq.specs.Recovery.{scale_of, right_of}
-use Rattle.recover_neq.specs.Shown.{StandsFor, AreRanks, ShowsEntries, IsShown, right_at}
+use Rattle.recover_neq.specs.Blocks.{Blocks, zero_decimal, row_of, weighted_right}
+use Rattle.recover_neq.specs.Recovery.{entry_power, right_power, scale_of}
+use Rattle.recover_neq.specs.Shown.{StandsFor, AreRanks, ShowsEntries, IsShown, ranked_number, right_number, row_power}
 use Rattle.recover_neq.proofs.NameLaws.{ids_in}
-use Rattle.recover_neq.proofs.RankLaws.{entry_is, exponent_is}
+use Rattle.recover_neq.proofs.RankLaws.{number_is, power_is, exponent_is}
 
 map_twice : {A B C : Type 0} (f : A → B) (g : B → C) (xs : List A) → map g (map f xs) ≡ map (λ x. g (f x)) xs
 map_twice f g [] = refl
@@ -41,18 +39,17 @@ module _ (blocks : Blocks) (scales : ScaleMap) (names : List PlainId) (ranks : L
   count : length exponents ≡ length names
   count = ap length scaled ∙ length-map names (scale_of scales)
 
-  right_is : (rows : List (Option Row)) (i : ℕ) (id : PlainId) → rows ≡ map (row_of blocks.vector) names → slice_get names i ≡ Some id → right_at rows exponents i ≡ right_of blocks scales id
-  right_is rows i id rows_are here =
+  right_number_is : (weight : Decimal) (rows : List (Option Row)) (i : ℕ) (id : PlainId) → rows ≡ map (row_of blocks.vector) names → slice_get names i ≡ Some id → right_number weight rows i ≡ weighted_right blocks weight id
+  right_number_is weight rows i id rows_are here =
       let row : get_or rows i None ≡ row_of blocks.vector id = ap (λ l. get_or l i None) rows_are ∙ get_or-map (row_of blocks.vector) names i id None (slice_get_within names i id here) ∙ ap (row_of blocks.vector) (get_or_from_slice_get names i id id here) in
-      ap (λ o. decimal_interval (value_or o) (pos 18 -ℤ at exponents i)) row
-      ∙ ap (λ t. decimal_interval (value_of blocks.vector id) (pos 18 -ℤ t)) (exponent_is scales names exponents i id scaled here)
+      ap (λ o. product weight (value_or o)) row
 
-  pub is_shown : (table : SymTable) (rows known : List (Option Row)) (right : List Interval) (values : List Decimal) (units : List (List ℕ)) → All (IsPlaced (length blocks.vector)) blocks.cells
-      → table.size ≡ length exponents → length table.words ≡ before table.size → ShowsEntries blocks.cells ranks exponents table
-      → rows ≡ map (row_of blocks.vector) names → length right ≡ length rows → ((i : ℕ) → i < length rows → StandsFor (right_at rows exponents i) (get_or right i zero_interval))
+  pub is_shown : (weight : Decimal) (table : SymTable) (rows known : List (Option Row)) (right : List Interval) (values : List Decimal) (units : List (List ℕ)) → All (IsPlaced (length blocks.vector)) blocks.cells
+      → table.size ≡ length exponents → length table.entries ≡ before table.size → ShowsEntries weight blocks.cells ranks exponents table
+      → rows ≡ map (row_of blocks.vector) names → length right ≡ length rows → ((i : ℕ) → i < length rows → StandsFor (right_number weight rows i) (row_power exponents i) (get_or right i zero_interval))
       → known ≡ map (row_of blocks.apriori) names → values ≡ map value_or known → units ≡ map unit_or known
-      → IsShown blocks scales (record { names = names; table = table; right = right; apriori = values; units = units; scales = exponents })
-  is_shown table rows known right values units placed size lower entries rows_are rights right_shown known_are values_are units_are =
+      → IsShown blocks weight scales (record { names = names; table = table; right = right; apriori = values; units = units; scales = exponents })
+  is_shown weight table rows known right values units placed size lower entries rows_are rights right_shown known_are values_are units_are =
       let rows_len : length rows ≡ length names = ap length rows_are ∙ length-map names (row_of blocks.vector) in
       let count_is = count in
       record {
@@ -61,11 +58,13 @@ module _ (blocks : Blocks) (scales : ScaleMap) (names : List PlainId) (ranks : L
         lower = lower;
         rights = rights ∙ rows_len;
         entries = λ i j one other here there.
-            subst (λ v. StandsFor v (word table i j)) (entry_is blocks scales names ranks exponents p in_order.0 are scaled i j one other placed here there)
-            (entries i j (let w = slice_get_within names i one here in omega arith) (let w = slice_get_within names j other there in omega arith));
+            subst (λ d. StandsFor d (entry_power scales one other) (entry_at table i j)) (number_is blocks scales names ranks exponents p in_order.0 are scaled weight i j one other placed here there)
+            (subst (λ k. StandsFor (ranked_number weight blocks.cells ranks i j) k (entry_at table i j)) (power_is blocks scales names ranks exponents p in_order.0 are scaled i j one other here there)
+            (entries i j (let w = slice_get_within names i one here in omega arith) (let w = slice_get_within names j other there in omega arith)));
         right = λ i id here.
-            subst (λ v. StandsFor v (get_or right i zero_interval)) (right_is rows i id rows_are here)
-            (right_shown i (let w = slice_get_within names i id here in omega arith));
+            subst (λ d. StandsFor d (right_power scales id) (get_or right i zero_interval)) (right_number_is weight rows i id rows_are here)
+            (subst (λ k. StandsFor (right_number weight rows i) k (get_or right i zero_interval)) (ap (λ t. pos 18 -ℤ t) (exponent_is scales names exponents i id scaled here))
+            (right_shown i (let w = slice_get_within names i id here in omega arith)));
         apriori = values_are ∙ ap (map value_or) known_are ∙ map_twice (row_of blocks.apriori) value_or names;
         units = units_are ∙ ap (map unit_or) known_are ∙ map_twice (row_of blocks.apriori) unit_or names;
         exponents = scaled;

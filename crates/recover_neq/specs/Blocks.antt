@@ -3,7 +3,7 @@
 use Rattle.std.specs.Prelude.{ℕ, pos, Bool, ◌||◌, ◌&&◌, ◌==◌, List, Option, Some, None, Result, Ok, Err, codes}
 use Rattle.std.specs.List.{find, position_or_len}
 use Rattle.std.specs.Net.Reader.{map_or}
-use Rattle.decimal_e.specs.Decimals.{Decimal}
+use Rattle.decimal_e.specs.Decimals.{Decimal, product}
 use Rattle.param_ids.specs.Plain.{PlainId}
 use Rattle.param_ids.specs.Order.{is_same_id}
 use Rattle.snx_rows.specs.declared.rows.Row.{Row}
@@ -65,3 +65,10 @@ matrix_of blocks one other = given_at blocks.cells (place_of blocks.vector one) 
 -- the element of the right side for a name
 abbrev pub vector_of : Blocks → PlainId → Decimal
 vector_of blocks = value_of blocks.vector
+
+-- the element of the matrix for two names, and that of the right side for a name, times the weight of the file
+abbrev pub weighted_entry : Blocks → Decimal → PlainId → PlainId → Decimal
+weighted_entry blocks weight one other = product weight (matrix_of blocks one other)
+
+abbrev pub weighted_right : Blocks → Decimal → PlainId → Decimal
+weighted_right blocks weight id = product weight (vector_of blocks id)

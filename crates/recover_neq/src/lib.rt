@@ -1,30 +1,29 @@
 //! From documents to normal equations in intervals by name.
 #![tactic(auto)]
 
-ghost use Rattle.std.specs.Prelude.{◌≡◌, ◌⊎◌, ℕ, length, IfOk, IfErr, Ok, Err};
-ghost use Rattle.whole_numbers.specs.Lists.{at};
-ghost use Rattle.equil.specs.Tables.{table_of};
-ghost use Rattle.sys_model.specs.Scaling.{LiesInStack};
-ghost use Rattle.sys_model.specs.Systems.{System};
+ghost use Rattle.std.specs.Prelude.{◌≡◌, ◌⊎◌, ◌^◌, map, IfOk, IfErr, Ok, Err};
 ghost use Rattle.snx_rows.specs.Blocks.{AreSound};
 ghost use Rattle.snx_rows.specs.declared.rows.Shape.TheVariants.{Value};
 ghost use Rattle.snx_blocks.specs.Documents.{IsValid};
 ghost use Rattle.snx_blocks.specs.Views.{doc_view};
+ghost use Rattle.neq_stack.specs.ByName.{AreAtMost};
 ghost use Rattle.neq_stack.specs.Neqs.{IsSound, neq_view};
+ghost use Rattle.neq_stack.specs.Systems.{NamedSystem, LiesInNeq};
 ghost use Rattle.recover_neq.specs.Blocks.{Blocks};
-ghost use Rattle.recover_neq.specs.Recovery.{IsRecovered, OneRecovery, matched, filled};
-ghost use Rattle.recover_neq.specs.Exact.{IsExact};
+ghost use Rattle.recover_neq.specs.Recovery.{IsRecovered, OneRecovery, RecoveredParameters, matched, filled, scale_of};
+ghost use Rattle.recover_neq.specs.Exact.{IsExact, MultiplesAreExact};
 ghost use Rattle.recover_neq.specs.declared.RecoverError.TheVariants.{Memory, Fault};
 ghost use Rattle.recover_neq.specs.declared.RecoverFault.TheVariants.{MissingBlock};
 
 mod columns;
+mod intervals;
 mod limits;
 mod making;
 mod naming;
-mod words;
 
 use crate::making::{modest, shown};
 use crate::naming::first_unmatched;
+use decimal_e::Dec;
 use neq_stack::Neq;
 use param_ids::{ParamId, Scales};
 use snx_blocks::{Doc, Section};
@@ -44,7 +43,8 @@ pub enum RecoverFault {
     /// There is no row.
     #[error("no row")]
     Empty,
-    /// The interval for these names passes 10^34 in size. One of the right side names its row twice.
+    /// The element for these names, times the weight, is no decimal of the type, or its interval passes 10^34 in size. One of the
+    /// right side names its row twice.
     #[error("a number is too great")]
     Range { row: ParamId, col: ParamId },
 }
@@ -108,7 +108,7 @@ fn missing(block: Section) -> RecoverError
     RecoverError::Fault(RecoverFault::MissingBlock { block })
 }
 
-/// The normal equations of a document, in intervals by name, the a priori values being the document's.
+/// The normal equations of a document, in intervals by name, with the weight of its file. The a priori values are the document's.
 ///
 /// # Errors
 ///
@@ -117,14 +117,17 @@ fn missing(block: Section) -> RecoverError
 pub fn recover<const N: usize>(
     alloc: Global,
     doc: &Doc,
+    weight: &Dec,
     scales: &Scales,
 ) -> Result<Neq<N>, RecoverError>
     requires { IsValid (doc_view doc.now) }
-    ensures neq { IfOk result (λ neq. IsRecovered (doc_view doc.now) scales.now (Ok (neq_view neq))) }
+    ensures neq { IfOk result (λ neq. IsRecovered (doc_view doc.now) weight.now scales.now (Ok (neq_view neq))) }
     ensures sound { IfOk result (λ neq. IsSound (neq_view neq)) }
-    ensures refused { IfErr result (λ cause. (cause ≡ RecoverError.Memory) ⊎ ((fault : RecoverFault) × (cause ≡ RecoverError.Fault fault) × IsRecovered (doc_view doc.now) scales.now (Err fault))) }
-    ensures exact { IfOk result (λ neq. (S : System) → IsExact (doc_view doc.now) neq.names S → LiesInStack (length neq.names) (table_of neq.table neq.right.items) (at neq.scales.items) S) }
-    ensures exact_exists { IfOk result (λ neq. (S : System) × IsExact (doc_view doc.now) neq.names S) }
+    ensures refused { IfErr result (λ cause. (cause ≡ RecoverError.Memory) ⊎ ((fault : RecoverFault) × (cause ≡ RecoverError.Fault fault) × IsRecovered (doc_view doc.now) weight.now scales.now (Err fault))) }
+    ensures exact { IfOk result (λ neq. (S : NamedSystem) → IsExact (doc_view doc.now) weight.now S → LiesInNeq (scale_of scales.now) (neq_view neq) S) }
+    ensures exact_exists { IfOk result (λ neq. (S : NamedSystem) × IsExact (doc_view doc.now) weight.now S) }
+    ensures modest { IfOk result (λ neq. AreAtMost (10 ^ 34) (neq_view neq)) }
+    ensures exponents { IfOk result (λ neq. (neq_view neq).scales ≡ map (scale_of scales.now) (neq_view neq).names) }
 {
     let Some(apriori) = &doc.apriori else {
         return Err(missing(Section::Apriori));
@@ -137,7 +140,7 @@ pub fn recover<const N: usize>(
     };
     all_matched(alloc, apriori, vector)?;
     some_row(vector)?;
-    let neq = shown(alloc, apriori, vector, &matrix.cells, scales)?;
+    let neq = shown(alloc, apriori, vector, &matrix.cells, weight, scales)?;
     modest(&neq)?;
     Ok(neq)
 }
@@ -145,4 +148,14 @@ pub fn recover<const N: usize>(
 /// A document has one recovery at most: normal equations, or a first cause, and never both.
 pub fn one_recovery()
     ensures { OneRecovery }
+{}
+
+/// With an exact system of a document also each multiple of it is exact.
+pub fn exact_multiples()
+    ensures { MultiplesAreExact }
+{}
+
+/// The parameters of recovered normal equations are those of the a priori rows of their names.
+pub fn recovered_parameters()
+    ensures { RecoveredParameters }
 {}

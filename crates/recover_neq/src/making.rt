@@ -7,42 +7,43 @@ ghost use Rattle.snx_matrices.specs.Elements.{AreElementsOf};
 ghost use Rattle.snx_rows.specs.Blocks.{AreSound};
 ghost use Rattle.snx_rows.specs.declared.rows.Shape.TheVariants.{Value, Vector};
 ghost use Rattle.neq_stack.specs.Neqs.{IsSound, neq_view};
-ghost use Rattle.recover_neq.specs.Recovery.{AreModest, IsPast};
-ghost use Rattle.recover_neq.specs.Shown.{IsShown};
+ghost use Rattle.recover_neq.specs.Shown.{AreModest, IsPast, IsShown};
 ghost use Rattle.recover_neq.specs.declared.RecoverFault.TheVariants.{Range};
 
 use crate::RecoverFault;
 use crate::columns::{exponents_of, units_of, values_of};
+use crate::intervals::{rights_of, table_of};
 use crate::limits::{first_past, first_past_of};
 use crate::naming::{names_of, ranks_of, rows_by_name};
-use crate::words::{rights_of, table_of};
+use decimal_e::Dec;
 use neq_stack::Neq;
 use param_ids::Scales;
 use snx_matrices::Cell;
 use snx_rows::Row;
 use std::alloc::{AllocError, Global};
 
-/// The normal equations of the blocks, with intervals that stand for theirs.
+/// The normal equations of the blocks with a weight, in intervals that stand for their numbers.
 pub fn shown<const N: usize>(
     alloc: Global,
     apriori: &[Row],
     vector: &[Row],
     cells: &[Cell],
+    weight: &Dec,
     scales: &Scales,
 ) -> Result<Neq<N>, AllocError>
     requires apriori { AreSound Value apriori.now }
     requires vector { AreSound Vector vector.now }
     requires cells { AreElementsOf (length vector.now) cells.now }
     ensures shown { IfOk result
-        (λ neq. IsShown (record { apriori = apriori.now; vector = vector.now; cells = cells.now }) scales.now (neq_view neq)) }
+        (λ neq. IsShown (record { apriori = apriori.now; vector = vector.now; cells = cells.now }) weight.now scales.now (neq_view neq)) }
     ensures scales { IfOk result (λ neq. All IsScale neq.scales.items) }
 {
     let names = names_of(alloc, vector)?;
     let ranks = ranks_of(alloc, &names, vector)?;
     let exponents = exponents_of(alloc, &names, scales)?;
-    let table = table_of(alloc, cells, &ranks, &exponents)?;
+    let table = table_of(alloc, weight, cells, &ranks, &exponents)?;
     let rows = rows_by_name(alloc, &names, vector)?;
-    let right = rights_of(alloc, &rows, &exponents)?;
+    let right = rights_of(alloc, weight, &rows, &exponents)?;
     let known = rows_by_name(alloc, &names, apriori)?;
     let values = values_of(alloc, &known)?;
     let units = units_of(alloc, &known)?;

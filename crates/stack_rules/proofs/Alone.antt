@@ -14,7 +14,7 @@ use Rattle.equil.specs.Tables.{exponent_of, working_entry, working_right, AreExp
 use Rattle.equil.proofs.Hundreds.{exponent_one}
 use Rattle.chol_factor.proofs.Alone.{pivot_alone}
 use Rattle.enclosures.specs.Pilots.{PilotTable}
-use Rattle.chol_guess.proofs.Alone.{pilot_alone, pilot_words_alone, no_pivot, no_condition, condition_alone, condition_no_pivot}
+use Rattle.chol_guess.proofs.Alone.{pilot_alone, pilot_entries_alone, no_pivot, no_condition, condition_alone, condition_no_pivot}
 use Rattle.enclosure_check.specs.Certificates.{IsCertified}
 use Rattle.enclosures.specs.declared.Radius.{Radius}
 use Rattle.enclosure_check.proofs.AloneVectors.{start_same, start_no_range, range_alone}
@@ -23,7 +23,8 @@ use Rattle.bounds_report.proofs.AlonePrinted.{printed_alone, printed_no_refusal,
 use Rattle.stack_rules.specs.Stacks.{Stack}
 use Rattle.stack_rules.specs.Rules.{Worked, intervals_of, midpoints_of, IsWorkedOf, IsWorkingStep, IsPilotStep, IsVectorStep, Certificate, certificate_of, radius_in, power_of, IsCertificateStep, IsPrintingStep, IsAnswer}
 use Rattle.stack_rules.specs.declared.StackError.TheVariants.{Range, Pivot, Condition, Residual, Defect}
-use Rattle.stack_rules.proofs.EqualTables.{equal_symmetric, equal_square}
+use Rattle.stack_rules.proofs.EqualTables.{equal_square}
+use Rattle.sym_blocks.proofs.EqualTables.{equal_symmetric}
 
 -- ---- the working table
 module _ (s : Stack) where
@@ -41,7 +42,7 @@ module _ (s : Stack) where
   worked_alone : (w v : Worked) → IsWorkedOf s w → IsWorkedOf s v → w ≡ v
   worked_alone w v a b =
       let exponents : w.exponents ≡ v.exponents = equal_lists (pos 0) s.rows w.exponents v.exponents a.exponents b.exponents (exponents_alone _ _ a.working.exponents b.working.exponents) in
-      let table : w.table ≡ v.table = equal_symmetric s.rows w.table v.table a.size b.size a.words b.words (λ i j row column.
+      let table : w.table ≡ v.table = equal_symmetric s.rows w.table v.table a.size b.size a.entries b.entries (λ i j row column.
       a.working.entries i j row column ∙ entry_moves _ _ a.working.exponents b.working.exponents i j row column ∙ sym (b.working.entries i j row column)) in
       let right : w.right ≡ v.right = equal_lists zero_interval s.rows w.right v.right a.rights b.rights (λ i row.
       a.working.rights i row ∙ right_moves _ _ a.working.exponents b.working.exponents i row ∙ sym (b.working.rights i row)) in
@@ -109,7 +110,7 @@ module _ (s : Stack) where
 module _ (s : Stack) (w : Worked) where
   pub pilot_is_one : IsOne (IsPilotStep s w)
   pilot_is_one (Ok p) (Ok q) a b =
-      ap Ok (equal_square s.rows p q a.pilot.size b.pilot.size a.square b.square (pilot_alone s.rows (midpoints_of w) p q a.pilot b.pilot) (pilot_words_alone s.rows (midpoints_of w) p q a.pilot b.pilot))
+      ap Ok (equal_square s.rows p q a.pilot.size b.pilot.size a.square b.square (pilot_alone s.rows (midpoints_of w) p q a.pilot b.pilot) (pilot_entries_alone s.rows (midpoints_of w) p q a.pilot b.pilot))
   pilot_is_one (Ok p) (Err (Pivot k)) a b = absurd (no_pivot s.rows (midpoints_of w) p k a.pilot b)
   pilot_is_one (Ok p) (Err (Condition k)) a b = absurd (no_condition s.rows (midpoints_of w) p k a.pilot b)
   pilot_is_one (Ok p) (Err _) a b = absurd b

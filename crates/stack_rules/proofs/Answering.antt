@@ -4,7 +4,7 @@ use Rattle.stated_order.specs.Steps.{Then}
 use Rattle.stated_order.proofs.StepLaws.{then_gives, then_stops}
 use Rattle.whole_numbers.specs.Intervals.{size}
 use Rattle.whole_numbers.specs.Lists.{at}
-use Rattle.sym_blocks.specs.Tables.{word, before, zero_interval}
+use Rattle.sym_blocks.specs.Tables.{entry_at, before, zero_interval}
 use Rattle.equil.specs.declared.EquilError.{EquilError}
 use Rattle.equil.specs.declared.EquilError.TheVariants as equil
 use Rattle.equil.specs.Refusals.{IfRange}
@@ -55,16 +55,16 @@ pub working_refused : (s : Stack) (x : EquilError) → IfRange (IsFirstPast s.ro
 working_refused s (equil.Range row col) h = inr (then_stops _ _ _ h)
 working_refused s equil.Memory h = inl refl
 
-pub is_worked : (s : Stack) (w : Worked) → w.table.size ≡ s.rows → length w.table.words ≡ before w.table.size → length w.right ≡ w.table.size → length w.exponents ≡ w.table.size
-    → ((i j : ℕ) → i < w.table.size → j < w.table.size → size (word w.table i j) ≤ 2 ^ 61) → ((i : ℕ) → i < w.table.size → size (slice_index_or w.right i zero_interval) ≤ 10 ^ 37)
+pub is_worked : (s : Stack) (w : Worked) → w.table.size ≡ s.rows → length w.table.entries ≡ before w.table.size → length w.right ≡ w.table.size → length w.exponents ≡ w.table.size
+    → ((i j : ℕ) → i < w.table.size → j < w.table.size → size (entry_at w.table i j) ≤ 2 ^ 61) → ((i : ℕ) → i < w.table.size → size (slice_index_or w.right i zero_interval) ≤ 10 ^ 37)
     → IsWorking s.rows s.table (intervals_of w) (exponent_of w.exponents) → IsWorkedOf s w
-is_worked s w rows words rights exponents words_small right_small working = record {
+is_worked s w rows entries rights exponents entries_small right_small working = record {
   size = rows;
-  words = words ∙ ap before rows;
+  entries = entries ∙ ap before rows;
   rights = rights ∙ rows;
   exponents = exponents ∙ rows;
   working = working;
-  entries_fit = λ i j row lower. let column : j < s.rows = omega arith in subst (λ v. size v ≤ 2 ^ 61) (working.entries i j row column) (words_small i j (omega arith) (omega arith));
+  entries_fit = λ i j row lower. let column : j < s.rows = omega arith in subst (λ v. size v ≤ 2 ^ 61) (working.entries i j row column) (entries_small i j (omega arith) (omega arith));
   rights_fit = λ i row. subst (λ v. size v ≤ 10 ^ 37) (working.rights i row) (right_small i (omega arith));
 }
 
@@ -81,10 +81,10 @@ module _ (s : Stack) (w : Worked) (is : IsWorkedOf s w) where
   pub pilot_refused : (x : PilotError) → IsRefused w.table.size (midpoints_of w) x → IsRefusedWith s (of_pilot x)
   pilot_refused x h = pilot_refused_by x (subst (λ n. IsRefused n (midpoints_of w) x) is.size h)
 
-  pub is_pilot : (p : PilotTable) → IsPilot w.table.size (midpoints_of w) p → length p.words ≡ p.size * p.size → IsPilotOf s w p
+  pub is_pilot : (p : PilotTable) → IsPilot w.table.size (midpoints_of w) p → length p.entries ≡ p.size * p.size → IsPilotOf s w p
   is_pilot p h square = let same : p.size ≡ s.rows = h.size ∙ is.size in record {
     pilot = subst (λ n. IsPilot n (midpoints_of w) p) is.size h;
-    square = subst (λ n. length p.words ≡ n * n) same square;
+    square = subst (λ n. length p.entries ≡ n * n) same square;
   }
 
   module _ (p : PilotTable) (of_p : IsPilotOf s w p) where

@@ -39,7 +39,7 @@ midpoints_of w i j = midpoint ((intervals_of w).entry i j)
 -- w is the working table of the stack, and all of it is in its bounds
 pub record IsWorkedOf (s : Stack) (w : Worked) : Type 0 where
   pub size : w.table.size ≡ s.rows
-  pub words : length w.table.words ≡ before s.rows
+  pub entries : length w.table.entries ≡ before s.rows
   pub rights : length w.right ≡ s.rows
   pub exponents : length w.exponents ≡ s.rows
   pub working : IsWorking s.rows s.table (intervals_of w) (exponent_of w.exponents)
@@ -56,7 +56,7 @@ IsWorkingStep s (Err _) = ⊥
 -- p is the pilot, with as many numbers as its rows and columns have
 pub record IsPilotOf (s : Stack) (w : Worked) (p : PilotTable) : Type 0 where
   pub pilot : IsPilot s.rows (midpoints_of w) p
-  pub square : length p.words ≡ s.rows * s.rows
+  pub square : length p.entries ≡ s.rows * s.rows
 
 -- the pilot, or the first column of which the middles have no factor, or the first that passes its bounds at each scale
 abbrev pub IsPilotStep : Stack → Worked → Result PilotTable StackError → Type 0

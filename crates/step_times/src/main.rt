@@ -1,7 +1,7 @@
 //! How long the steps of a solve take, in milliseconds, for a table or for a file.
 //!
 //! The words are `table ROWS` or `file NAME`, and `quiet` after them for no times. The table is strongly diagonal and made from a
-//! fixed sequence, and its words are intervals of width 1: the table of `bench/kernels.cpp`. The scripts in `bench/` start this program.
+//! fixed sequence, and its entries are intervals of width 1: the table of `bench/kernels.cpp`. The scripts in `bench/` start this program.
 #![tactic(auto)]
 
 mod steps;

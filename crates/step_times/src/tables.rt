@@ -13,7 +13,7 @@ fn next(s: u64) -> u64 {
     s ^ (s << 17)
 }
 
-/// The low end of a word at the diagonal, or beside it in a table of `n` rows.
+/// The low end of an entry at the diagonal, or beside it in a table of `n` rows.
 fn low_end(s: u64, is_diagonal: bool, n: usize) -> i128
     requires { 1 ≤ n }
     ensures { unsigned_abs result ≤ 2 ^ 60 }
@@ -31,7 +31,7 @@ fn width_one(low: i128) -> Iv
     requires { unsigned_abs low ≤ 2 ^ 60 }
 {
     match Iv::new(low, low + 1) {
-        Some(word) => word,
+        Some(interval) => interval,
         None => Iv::point(low),
     }
 }

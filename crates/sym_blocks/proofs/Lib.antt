@@ -1,2 +1,3 @@
+pub mod EqualTables
 pub mod Rows
 pub mod Written

@@ -1,7 +1,7 @@
 -- Places of intervals in the list.
 use Rattle.std.proofs.Common.{◌≡◌, ◌≤◌, ◌<◌, ◌+◌, ◌-◌, ◌*◌, ◌/◌, inl, inr, ℕ, zero, suc, refl, ap, arith, max, min, slice_index_or}
 use Rattle.std.proofs.Math.Decide.{dec_lt}
-use Rattle.sym_blocks.specs.Tables.{before, lower_place, place, SymTable, word, zero_interval, IsPair}
+use Rattle.sym_blocks.specs.Tables.{before, lower_place, place, SymTable, entry_at, zero_interval, IsPair}
 
 twice : (n : ℕ) → 2 * before n ≡ n * (n + 1)
 unfolding before
@@ -76,5 +76,5 @@ place_below i j m n e row column = place_within i j m (omega arith) (omega arith
 pub lower_below : (i j m n : ℕ) → m ≡ n → i < n → j ≤ i → lower_place i j < before m
 lower_below i j m n e row column = lower_within i j m (omega arith) column
 
-pub word_sym : (t : SymTable) (i j : ℕ) → word t i j ≡ word t j i
-word_sym t i j = ap (λ p. slice_index_or t.words p zero_interval) (place_same j i i j (inr (refl, refl)))
+pub entry_sym : (t : SymTable) (i j : ℕ) → entry_at t i j ≡ entry_at t j i
+entry_sym t i j = ap (λ p. slice_index_or t.entries p zero_interval) (place_same j i i j (inr (refl, refl)))

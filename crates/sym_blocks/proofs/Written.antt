@@ -3,7 +3,7 @@ use Rattle.std.proofs.Common.{◌≡◌, ◌≤◌, ◌<◌, ◌∙◌, ℕ, Lis
 use Rattle.std.proofs.lemmas.Grind.{get_or-set_at}
 use Rattle.std.proofs.lemmas.List.{get_or-set_other}
 use Rattle.whole_numbers.specs.Intervals.{Interval}
-use Rattle.sym_blocks.specs.Tables.{before, place, lower_place, IsPair, SymTable, SumFits, word, zero_interval}
+use Rattle.sym_blocks.specs.Tables.{before, place, lower_place, IsPair, SymTable, SumFits, entry_at, zero_interval}
 use Rattle.sym_blocks.proofs.Rows.{place_same, place_apart, lower_apart, pair_at, place_lower}
 
 pub here : {X : Type 0} (xs : List X) (p i j k l : ℕ) (v d : X) → p ≡ place i j → p < length xs → IsPair i j k l → slice_index_or (slice_set xs p v) (place k l) d ≡ v
@@ -22,5 +22,5 @@ pub each_place : (P : ℕ → Type 0) (n : ℕ) → ((i j : ℕ) → i < n → j
 each_place P n h k lt = let p = pair_at n k lt in subst P (place_lower p.row p.column p.lower ∙ p.is) (h p.row p.column p.within p.lower)
 
 -- what sums fit at each pair fit at each place
-pub fits_each : (t u : SymTable) (xs ys : List Interval) → xs ≡ t.words → ys ≡ u.words → ((i j : ℕ) → i < t.size → j ≤ i → SumFits (word t i j) (word u i j)) → (k : ℕ) → k < before t.size → SumFits (slice_index_or xs k zero_interval) (slice_index_or ys k zero_interval)
-fits_each t u xs ys e f h k lt = rw (e, f) (each_place (λ k. SumFits (slice_index_or t.words k zero_interval) (slice_index_or u.words k zero_interval)) t.size h k lt)
+pub fits_each : (t u : SymTable) (xs ys : List Interval) → xs ≡ t.entries → ys ≡ u.entries → ((i j : ℕ) → i < t.size → j ≤ i → SumFits (entry_at t i j) (entry_at u i j)) → (k : ℕ) → k < before t.size → SumFits (slice_index_or xs k zero_interval) (slice_index_or ys k zero_interval)
+fits_each t u xs ys e f h k lt = rw (e, f) (each_place (λ k. SumFits (slice_index_or t.entries k zero_interval) (slice_index_or u.entries k zero_interval)) t.size h k lt)

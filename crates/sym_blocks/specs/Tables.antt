@@ -23,11 +23,11 @@ place i j = lower_place (max i j) (min i j)
 -- a symmetric table: its size and its lower intervals
 pub record SymTable : Type 0 where
   pub size : ℕ
-  pub words : List Interval
+  pub entries : List Interval
 
 -- the interval of the pair (i, j)
-abbrev pub word : SymTable → ℕ → ℕ → Interval
-word table i j = slice_index_or table.words (place i j) zero_interval
+abbrev pub entry_at : SymTable → ℕ → ℕ → Interval
+entry_at table i j = slice_index_or table.entries (place i j) zero_interval
 
 -- a lower triangle: its size and its numbers
 pub record TriTable : Type 0 where

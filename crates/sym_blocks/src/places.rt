@@ -5,7 +5,7 @@ ghost use Rattle.sym_blocks.specs.Tables.{before, lower_place};
 
 /// How many intervals stand before row `n`.
 #[tactic(auto, using(crate::proofs::Rows::half))]
-pub fn words_before(n: usize) -> usize
+pub fn entries_before(n: usize) -> usize
     requires { n ≤ 1000 }
     ensures value { result ≡ before n }
     ensures bound { result ≤ 500500 }
@@ -19,5 +19,5 @@ pub fn lower_place_of(i: usize, j: usize) -> usize
     requires column { j ≤ i }
     ensures { result ≡ lower_place i j }
 {
-    words_before(i) + j
+    entries_before(i) + j
 }

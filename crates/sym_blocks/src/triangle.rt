@@ -3,7 +3,7 @@
 ghost use Rattle.std.specs.Prelude.{◌≡◌, ◌≤◌, ◌<◌, ◌+◌, ◌*◌, ◌/◌, ℕ, ℤ, pos, List, length, replicate, slice_index_or, IfOk};
 ghost use Rattle.sym_blocks.specs.Tables.{before, lower_place, TriTable, number};
 
-use crate::places::{lower_place_of, words_before};
+use crate::places::{entries_before, lower_place_of};
 use std::alloc::{AllocError, Global};
 use std::marker::Model;
 
@@ -29,7 +29,7 @@ fn zeros(alloc: Global, n: usize) -> Result<Vec<i128>, AllocError>
     requires { n ≤ 1000 }
     ensures { IfOk result (λ v. v.items ≡ replicate (before n) (pos 0)) }
 {
-    vec![in alloc; 0i128; words_before(n)]
+    vec![in alloc; 0i128; entries_before(n)]
 }
 
 fn number_at(numbers: &[i128], at: usize) -> i128

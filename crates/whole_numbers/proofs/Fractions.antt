@@ -10,8 +10,8 @@ use Rattle.whole_numbers.proofs.EqualFractions.{products_apart}
 use Rattle.whole_numbers.proofs.Products.{interval_mul_contains}
 
 -- the interval of w with each end times k
-abbrev times_word : Interval → ℕ → Interval
-times_word w k = record { lo = w.lo *ℤ pos k; hi = w.hi *ℤ pos k }
+abbrev times_interval : Interval → ℕ → Interval
+times_interval w k = record { lo = w.lo *ℤ pos k; hi = w.hi *ℤ pos k }
 
 min_times : (a b : ℤ) (k : ℕ) → int_min (a *ℤ pos k) (b *ℤ pos k) ≡ int_min a b *ℤ pos k
 min_times a b k = by_lt_z a b
@@ -33,7 +33,7 @@ greatest_times a b c d k = rw (max_times a b k, max_times c d k) (max_times (int
 
 pub holds_mul : (w v : Interval) (x y : ℤ) (q p : ℕ) → Holds w x q → Holds v y p → Holds (interval_mul w v) (x *ℤ y) (q * p)
 holds_mul w v x y q p h k =
-    let m = interval_mul_contains (times_word w q) (times_word v p) x y (record { above = h.above; below = h.below }) (record { above = k.above; below = k.below }) in
+    let m = interval_mul_contains (times_interval w q) (times_interval v p) x y (record { above = h.above; below = h.below }) (record { above = k.above; below = k.below }) in
     let a = products_apart w.lo v.lo q p in
     let b = products_apart w.lo v.hi q p in
     let c = products_apart w.hi v.lo q p in

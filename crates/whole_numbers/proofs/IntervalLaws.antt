@@ -1,4 +1,4 @@
--- Words: intervals of whole numbers, and the fractions that they hold.
+-- Intervals of whole numbers, and the fractions that they hold.
 use Rattle.std.proofs.Common.{◌≡◌, ℕ, zero, suc, pos, negsuc, ℤ, ◌+ℤ◌, ◌*ℤ◌, neg_ℤ, ◌≤ℤ◌, ◌<ℤ◌, arith, ◌≤◌, ◌<◌, ◌*◌, ◌^◌, unsigned_abs, ap, refl}
 use Rattle.std.proofs.Math.IntN.{◌-ℤ◌}
 use Rattle.std.proofs.lemmas.Int.{ints, unsigned_abs-mul}

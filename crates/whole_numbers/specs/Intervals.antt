@@ -1,4 +1,4 @@
--- Words: intervals of whole numbers, and the fractions that they hold.
+-- Intervals of whole numbers, and the fractions that they hold.
 use Rattle.std.specs.Prelude.{◌≡◌, ℕ, ℤ, pos, negsuc, ◌+ℤ◌, ◌-ℤ◌, ◌*ℤ◌, neg_ℤ, ◌≤ℤ◌, ◌^◌, max, unsigned_abs}
 use Rattle.std.specs.Int.{int_min, int_max}
 use Rattle.whole_numbers.specs.Sum.{sum_to}

@@ -7,8 +7,8 @@ use Rattle.bounds_report.proofs.ends.row_ends.Goals as goal
 
 pub returns : goal.returns
 returns c =
-    let lo = c.lo.ensures.value ∙ ap (λ (w : Interval). w.lo) c.printed_word-word.ensures.value in
-    let hi = c.hi.ensures.value ∙ ap (λ (w : Interval). w.hi) c.printed_word-word.ensures.value in
+    let lo = c.lo.ensures.value ∙ ap (λ (w : Interval). w.lo) c.printed_interval-interval.ensures.value in
+    let hi = c.hi.ensures.value ∙ ap (λ (w : Interval). w.hi) c.printed_interval-interval.ensures.value in
     let low = c.in_ok-low.ensures in
     let high = c.in_ok-high.ensures in
     let l : ℤ = to_z w128 (of_z w128 (to_z w128 (of_z w128 c.lo.result) +ℤ to_z w128 (of_z w128 c.in_ok-low.low))) in

@@ -1,4 +1,4 @@
-use Rattle.std.proofs.Common.{◌<◌, ◌^◌, ℕ, zero, suc, List, [], ◌∷◌, pos, to_z, of_z, slice_index_or, sym, ◌∙◌, arith}
+use Rattle.std.proofs.Common.{◌<◌, ◌^◌, ℕ, zero, suc, [], ◌∷◌, pos, to_z, of_z, slice_index_or, sym, ◌∙◌, arith}
 use Rattle.std.specs.Int.{w32}
 use Rattle.std.proofs.lemmas.Int.{ints}
 use Rattle.decimal_e.specs.Fractions.{IsAtMost}

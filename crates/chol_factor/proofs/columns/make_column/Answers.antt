@@ -56,20 +56,20 @@ loop-i-preserved c =
     let i = c.loop-i.i in
     let j = c.args.j in
     let wide : FitsSigned w128 c.left-in-loop-i.result = search rules in
-    let fits : FitsSigned w64 c.in-Some-quotient.word = search rules in
-    let word = to_z-of_z w64 c.in-Some-quotient.word fits ∙ c.in-Some-quotient.ensures.1 in
+    let fits : FitsSigned w64 c.in-Some-quotient.entry = search rules in
+    let entry = to_z-of_z w64 c.in-Some-quotient.entry fits ∙ c.in-Some-quotient.ensures.1 in
     let lower : j < i = omega arith in
     let row : i < c.loop-i.f.size = omega (arith, c.loop-i.invariant.same) in
     let size : c.loop-i.f.size ≡ n = c.loop-i.invariant.same in
     let left = to_z-of_z w128 c.left-in-loop-i.result wide ∙ c.left-in-loop-i.ensures ∙ left_same old made made i j (c.loop-i.invariant.rest i (omega arith) (omega arith)) in
     record {
       same = c.set-in-loop-i.ensures.size ∙ size;
-      small = c.set-in-loop-i.ensures.small (2 ^ 61) c.loop-i.invariant.small (bounded_small _ _ _ c.in-Some-quotient.ensures.0 word);
+      small = c.set-in-loop-i.ensures.small (2 ^ 61) c.loop-i.invariant.small (bounded_small _ _ _ c.in-Some-quotient.ensures.0 entry);
       kept = agree_set n c.args.f.now c.loop-i.f new i j _ size c.loop-i.invariant.kept c.set-in-loop-i.ensures;
       waiting = waiting_set n old c.loop-i.f new i j _ (omega arith) c.loop-i.invariant.waiting c.set-in-loop-i.ensures;
       rest = rest_set n old c.loop-i.f new i j _ (omega arith) (omega arith) c.loop-i.invariant.rest c.set-in-loop-i.ensures;
       root = c.set-in-loop-i.ensures.others j j (omega arith) (omega arith) (λ e. let p = e.0 in absurd (omega arith)) ∙ c.loop-i.invariant.root;
-      made = column_more old c.loop-i.f new i j _ _ _ lower row c.loop-i.invariant.made left c.loop-i.invariant.root c.in-Some-quotient.ensures.0 word c.set-in-loop-i.ensures;
+      made = column_more old c.loop-i.f new i j _ _ _ lower row c.loop-i.invariant.made left c.loop-i.invariant.root c.in-Some-quotient.ensures.0 entry c.set-in-loop-i.ensures;
     }
 
 pub returns-clause-made : goal.returns-clause-made

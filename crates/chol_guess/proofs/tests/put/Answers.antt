@@ -3,7 +3,7 @@ use Rattle.std.specs.Int.{w128}
 use Rattle.std.proofs.Math.Decide.{ℕ_discrete}
 use Rattle.std.proofs.lemmas.Int.{to_z-of_z}
 use Rattle.whole_numbers.specs.Intervals.{Interval, size}
-use Rattle.sym_blocks.specs.Tables.{SymTable, word, IsPair}
+use Rattle.sym_blocks.specs.Tables.{SymTable, entry_at, IsPair}
 use Rattle.chol_guess.proofs.tests.put.Goals as goal
 
 pair_or_not : (i j k l : ℕ) → IsPair i j k l ⊎ (¬ (IsPair i j k l))
@@ -30,7 +30,7 @@ pair_or_not i j k l =
           | no b ↦ inr (neither i j k l a (λ p. b p.0))
         ]
 
-small_after : (i j k l : ℕ) (w : Interval) (a b : SymTable) → size w ≤ 2 ^ 61 → size (word a k l) ≤ 2 ^ 61 → (IsPair i j k l → word b k l ≡ w) → (¬ (IsPair i j k l) → word b k l ≡ word a k l) → size (word b k l) ≤ 2 ^ 61
+small_after : (i j k l : ℕ) (w : Interval) (a b : SymTable) → size w ≤ 2 ^ 61 → size (entry_at a k l) ≤ 2 ^ 61 → (IsPair i j k l → entry_at b k l ≡ w) → (¬ (IsPair i j k l) → entry_at b k l ≡ entry_at a k l) → size (entry_at b k l) ≤ 2 ^ 61
 small_after i j k l w a b here before set kept =
     elim (pair_or_not i j k l) [
       | inl pair ↦ subst (λ x. size x ≤ 2 ^ 61) (sym (set pair)) here

@@ -1,7 +1,7 @@
 use Rattle.std.proofs.Common.{◌≡◌, map, drop}
-use Rattle.toml.specs.Data.{as_table, as_str}
+use Rattle.toml.specs.Data.{as_table}
 use Rattle.toml.specs.View.{table_view, items_view}
-use Rattle.control_doc.specs.Tables.{each_as, as_texts}
+use Rattle.control_doc.specs.Tables.{each_as}
 use Rattle.control_doc.proofs.Items.{before}
 use Rattle.control_doc.proofs.arrays.tables_of.Given as goal
 

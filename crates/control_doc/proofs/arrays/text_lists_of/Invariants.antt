@@ -1,6 +1,5 @@
 use Rattle.std.proofs.Common.{◌≡◌, map, drop}
-use Rattle.toml.specs.Data.{as_table, as_str}
-use Rattle.toml.specs.View.{table_view, items_view}
+use Rattle.toml.specs.View.{items_view}
 use Rattle.control_doc.specs.Tables.{each_as, as_texts}
 use Rattle.control_doc.proofs.Items.{before}
 use Rattle.control_doc.proofs.arrays.text_lists_of.Given as goal

@@ -1,4 +1,4 @@
-use Rattle.std.proofs.Common.{◌≡◌, map, List, ℕ, Result, Ok, codes, Bor, Vec, Global, subst, arith}
+use Rattle.std.proofs.Common.{◌≡◌, map, List, ℕ, Result, codes, Bor, Vec, Global, subst, arith}
 use Rattle.std.proofs.lemmas.Grind.{common_steps}
 use Rattle.toml.specs.Data.{get_member}
 use Rattle.toml.specs.View.{table_view}

@@ -1,4 +1,4 @@
-use Rattle.std.proofs.Common.{◌≡◌, map, take, List, [], Ok, codes, Bor, BTreeMap, String, Global}
+use Rattle.std.proofs.Common.{map, take, [], Ok, codes, Bor, BTreeMap, String, Global}
 use Rattle.stated_order.specs.Steps.{InTurn}
 use Rattle.toml.specs.View.{table_view}
 use Rattle.toml.specs.declared.value.Value.{Value}

@@ -15,7 +15,7 @@ loop-i-preserved g c =
     let s = c.in_ok-squares.squares in
     let v = c.loop-i.defects in
     let items = c.in_ok-push.ensures.items in
-    let here = turned_parts s.low.size n i c.row_parts.result a [] p s.low.numbers s.high.numbers c.in_ok-squares.ensures.size c.in_ok-squares.ensures.words c.row_parts.ensures in
+    let here = turned_parts s.low.size n i c.row_parts.result a [] p s.low.numbers s.high.numbers c.in_ok-squares.ensures.size c.in_ok-squares.ensures.entries c.row_parts.ensures in
     record {
       len = omega (arith, c.in_ok-push.ensures.len, c.loop-i.invariant.len);
       each = rw items (each_push (λ k x. x ≡ parts_of n t p k) v.items i c.row_parts.result 0 (omega (arith, c.loop-i.invariant.len, v.ok.0)) c.loop-i.invariant.each here);

@@ -6,5 +6,5 @@ use Rattle.enclosure_check.proofs.row_errors.errors_of.Given as goal
 abbrev pub invariant-loop-i : goal.invariant-loop-i
 invariant-loop-i l = record {
   len : vec_len l.errors ≡ l.i;
-  each : (k : ℕ) → k < l.i → slice_index_or l.errors.items k 0 ≡ shifted_error l.p l.words l.h k;
+  each : (k : ℕ) → k < l.i → slice_index_or l.errors.items k 0 ≡ shifted_error l.p l.entries l.h k;
 }

@@ -5,8 +5,8 @@ use Rattle.enclosure_check.proofs.row_errors.least_shift.Goals as goal
 
 pub returns-clause-least : goal.returns-clause-least
 returns-clause-least c =
-    let words = c.args.words.now in
-    least_to (FitAfter words) 60 c.least_passed.result c.least_passed.ensures.few
+    let entries = c.args.entries.now in
+    least_to (FitAfter entries) 60 c.least_passed.result c.least_passed.ensures.few
     (λ k less fits. let said = c.least_passed.ensures.before k less in search rules)
     (λ less. let said = c.least_passed.ensures.here less in search rules)
     (λ i within. let small = c.requires i within in search rules)

@@ -10,4 +10,4 @@ mul_small-requires c =
     let fits : FitsSigned w128 c.from.result = search rules in
     let narrow : FitsSigned w64 (at c.args.row.now c.args.k) = search rules in
     let e = simp to_z-of_z at c.from.ensures in
-    rw (to_z-of_z w128 c.from.result fits, c.word_at.ensures, e) (part_small c.args.row.now c.args.words.now c.args.k c.requires.sizes c.requires.within)
+    rw (to_z-of_z w128 c.from.result fits, c.nth_entry.ensures, e) (part_small c.args.row.now c.args.entries.now c.args.k c.requires.sizes c.requires.within)

@@ -10,11 +10,11 @@ use Rattle.enclosure_check.proofs.row_errors.residual_intervals.Goals as goal
 pub loop-i-preserved : goal.loop-i-preserved
 loop-i-preserved g c =
     let a = c.args.a.now in
-    let before : length c.loop-i.words.items ≡ c.loop-i.i = omega (arith, c.loop-i.invariant.len, c.loop-i.words.ok.0) in
+    let before : length c.loop-i.entries.items ≡ c.loop-i.i = omega (arith, c.loop-i.invariant.len, c.loop-i.entries.ok.0) in
     let items = c.in_ok-push.ensures.items in
     let lefts = residual_interval a.size (table_of a c.args.d.now) (at c.args.y.now) in
     record {
       len = omega (arith, c.in_ok-push.ensures.len, c.loop-i.invariant.len);
-      each = rw items (each_push (λ k v. v ≡ lefts k) c.loop-i.words.items c.loop-i.i c.residual_interval.result zero_interval before c.loop-i.invariant.each c.residual_interval.ensures.value);
-      small = rw items (each_push (λ k v. size v ≤ 2 ^ 126) c.loop-i.words.items c.loop-i.i c.residual_interval.result zero_interval before c.loop-i.invariant.small c.residual_interval.ensures.bound);
+      each = rw items (each_push (λ k v. v ≡ lefts k) c.loop-i.entries.items c.loop-i.i c.residual_interval.result zero_interval before c.loop-i.invariant.each c.residual_interval.ensures.value);
+      small = rw items (each_push (λ k v. size v ≤ 2 ^ 126) c.loop-i.entries.items c.loop-i.i c.residual_interval.result zero_interval before c.loop-i.invariant.small c.residual_interval.ensures.bound);
     }

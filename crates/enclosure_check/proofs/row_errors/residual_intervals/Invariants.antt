@@ -4,12 +4,12 @@ use Rattle.whole_numbers.specs.Intervals.{size}
 use Rattle.sys_model.specs.Systems.{residual_interval}
 use Rattle.whole_numbers.specs.Lists.{at}
 use Rattle.equil.specs.Tables.{table_of}
-use Rattle.enclosure_check.specs.ErrorParts.{word_at}
+use Rattle.enclosure_check.specs.ErrorParts.{nth_entry}
 use Rattle.enclosure_check.proofs.row_errors.residual_intervals.Given as goal
 
 abbrev pub invariant-loop-i : goal.invariant-loop-i
 invariant-loop-i g l = record {
-  len : vec_len l.words ≡ l.i;
-  each : (k : ℕ) → k < l.i → word_at l.words.items k ≡ residual_interval l.a.size (table_of l.a l.d) (at l.y) k;
-  small : (k : ℕ) → k < l.i → size (word_at l.words.items k) ≤ 2 ^ 126;
+  len : vec_len l.entries ≡ l.i;
+  each : (k : ℕ) → k < l.i → nth_entry l.entries.items k ≡ residual_interval l.a.size (table_of l.a l.d) (at l.y) k;
+  small : (k : ℕ) → k < l.i → size (nth_entry l.entries.items k) ≤ 2 ^ 126;
 }

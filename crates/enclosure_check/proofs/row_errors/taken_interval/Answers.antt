@@ -10,4 +10,4 @@ mul_small-requires g c =
     let a = c.args.a.now in
     let y = c.args.y.now in
     let fits : FitsSigned w128 (at y c.args.j) = search rules in
-    rw (to_z-of_z w128 (at y c.args.j) fits, c.get.ensures) (taken_small a y c.args.i c.args.j c.requires.words.small c.requires.vector c.requires.row c.requires.column)
+    rw (to_z-of_z w128 (at y c.args.j) fits, c.get.ensures) (taken_small a y c.args.i c.args.j c.requires.entries.small c.requires.vector c.requires.row c.requires.column)

@@ -6,6 +6,6 @@ use Rattle.enclosure_check.proofs.vector.midpoint_residual.Goals as goal
 
 pub returns-clause-bound : goal.returns-clause-bound
 returns-clause-bound g c =
-    let d : size c.word_at.result ≤ 10 ^ 37 = rw (c.word_at.ensures, c.deref.ensures.value) (c.args.w.now.right_small c.args.i c.requires.row) in
-    let m : unsigned_abs c.mid.result ≤ 10 ^ 37 = rw c.mid.ensures (middle_small c.word_at.result (10 ^ 37) d) in
+    let d : size c.nth_entry.result ≤ 10 ^ 37 = rw (c.nth_entry.ensures, c.deref.ensures.value) (c.args.w.now.right_small c.args.i c.requires.row) in
+    let m : unsigned_abs c.mid.result ≤ 10 ^ 37 = rw c.mid.ensures (middle_small c.nth_entry.result (10 ^ 37) d) in
     omega (arith, ints, c.taken.ensures.bound)

@@ -13,4 +13,4 @@ product-requires g c =
     let fits : FitsSigned w128 (at y c.args.j) = search rules in
     let middle_fits : FitsSigned w128 c.mid.result = search rules in
     let is = c.mid.ensures ∙ ap (λ v. midpoint v) c.get.ensures in
-    rw (to_z-of_z w128 c.mid.result middle_fits, to_z-of_z w128 (at y c.args.j) fits, is) (taken_small w.a y c.args.i c.args.j w.words_small c.requires.vector c.requires.row c.requires.column)
+    rw (to_z-of_z w128 c.mid.result middle_fits, to_z-of_z w128 (at y c.args.j) fits, is) (taken_small w.a y c.args.i c.args.j w.entries_small c.requires.vector c.requires.row c.requires.column)

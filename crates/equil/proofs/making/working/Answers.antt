@@ -11,8 +11,8 @@ pub returns-in-Err-scaled_right-clause-past : goal.returns-in-Err-scaled_right-c
 returns-in-Err-scaled_right-clause-past g c =
     past_right c.args.table.now c.in-Ok-scaled_table.a c.args.right.now c.in-Ok.e.items c.deref.result.now c.deref-2.result.now c.deref.ensures.value c.deref-2.ensures.value c.requires c.in-Ok.ensures.are c.in-Ok-scaled_table.ensures.scaled c.in-Err-scaled_right.refusal c.in-Err-scaled_right.ensures.past
 
-pub invariant_of-result-clause-words_small : goal.invariant_of-result-clause-words_small
-invariant_of-result-clause-words_small g c =
+pub invariant_of-result-clause-entries_small : goal.invariant_of-result-clause-entries_small
+invariant_of-result-clause-entries_small g c =
     scaled_small c.args.table.now.size c.args.table.now c.in-Ok-scaled_table.a c.in-Ok.e.items c.deref.result.now c.deref.ensures.value (sym c.in-Ok-scaled_table.ensures.size) c.in-Ok-scaled_table.ensures.scaled
 
 pub invariant_of-result-clause-right_small : goal.invariant_of-result-clause-right_small

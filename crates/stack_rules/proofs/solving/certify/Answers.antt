@@ -16,7 +16,7 @@ returns-in_err-pilot-clause-refused g c =
     let w = c.in_ok-w.w in
     let s : Stack = stack_of c.args.table.now c.args.right.now c.args.apriori.now c.args.scales.now in
     let x : Worked = record { table = w.a; right = w.d.items; exponents = w.e.items } in
-    let is : IsWorkedOf s x = is_worked s x c.in_ok-w.ensures.size c.in_ok-w.ensures.list (omega (arith, w.rows, w.d.ok.0)) (omega (arith, w.powers, w.e.ok.0)) w.words_small w.right_small c.in_ok-w.ensures.working in
+    let is : IsWorkedOf s x = is_worked s x c.in_ok-w.ensures.size c.in_ok-w.ensures.list (omega (arith, w.rows, w.d.ok.0)) (omega (arith, w.powers, w.e.ok.0)) w.entries_small w.right_small c.in_ok-w.ensures.working in
     let from = err_from_is_err_and c.from_residual-in_err-pilot.result c.from_residual-in_err-pilot.ensures.1 in
     rw (from.1, from.2) (pilot_refused s x is c.in_err-pilot.field-0.0 c.in_err-pilot.ensures.refused)
 
@@ -25,7 +25,7 @@ returns-in_err-y-clause-refused g c =
     let w = c.in_ok-w.w in
     let s : Stack = stack_of c.args.table.now c.args.right.now c.args.apriori.now c.args.scales.now in
     let x : Worked = record { table = w.a; right = w.d.items; exponents = w.e.items } in
-    let is : IsWorkedOf s x = is_worked s x c.in_ok-w.ensures.size c.in_ok-w.ensures.list (omega (arith, w.rows, w.d.ok.0)) (omega (arith, w.powers, w.e.ok.0)) w.words_small w.right_small c.in_ok-w.ensures.working in
+    let is : IsWorkedOf s x = is_worked s x c.in_ok-w.ensures.size c.in_ok-w.ensures.list (omega (arith, w.rows, w.d.ok.0)) (omega (arith, w.powers, w.e.ok.0)) w.entries_small w.right_small c.in_ok-w.ensures.working in
     let p = c.in_ok-pilot.pilot in
     let of_p : IsPilotOf s x p = is_pilot s x is p c.in_ok-pilot.ensures.value c.in_ok-pilot.ensures.square in
     let from = err_from_is_err_and c.from_residual-in_err-y.result c.from_residual-in_err-y.ensures.1 in
@@ -36,7 +36,7 @@ returns-in_err-radius-clause-refused g c =
     let w = c.in_ok-w.w in
     let s : Stack = stack_of c.args.table.now c.args.right.now c.args.apriori.now c.args.scales.now in
     let x : Worked = record { table = w.a; right = w.d.items; exponents = w.e.items } in
-    let is : IsWorkedOf s x = is_worked s x c.in_ok-w.ensures.size c.in_ok-w.ensures.list (omega (arith, w.rows, w.d.ok.0)) (omega (arith, w.powers, w.e.ok.0)) w.words_small w.right_small c.in_ok-w.ensures.working in
+    let is : IsWorkedOf s x = is_worked s x c.in_ok-w.ensures.size c.in_ok-w.ensures.list (omega (arith, w.rows, w.d.ok.0)) (omega (arith, w.powers, w.e.ok.0)) w.entries_small w.right_small c.in_ok-w.ensures.working in
     let p = c.in_ok-pilot.pilot in
     let of_p : IsPilotOf s x p = is_pilot s x is p c.in_ok-pilot.ensures.value c.in_ok-pilot.ensures.square in
     let y = c.in_ok-y.y in
@@ -50,7 +50,7 @@ returns-in_err-rows-clause-refused g c =
     let w = c.in_ok-w.w in
     let s : Stack = stack_of c.args.table.now c.args.right.now c.args.apriori.now c.args.scales.now in
     let x : Worked = record { table = w.a; right = w.d.items; exponents = w.e.items } in
-    let is : IsWorkedOf s x = is_worked s x c.in_ok-w.ensures.size c.in_ok-w.ensures.list (omega (arith, w.rows, w.d.ok.0)) (omega (arith, w.powers, w.e.ok.0)) w.words_small w.right_small c.in_ok-w.ensures.working in
+    let is : IsWorkedOf s x = is_worked s x c.in_ok-w.ensures.size c.in_ok-w.ensures.list (omega (arith, w.rows, w.d.ok.0)) (omega (arith, w.powers, w.e.ok.0)) w.entries_small w.right_small c.in_ok-w.ensures.working in
     let p = c.in_ok-pilot.pilot in
     let of_p : IsPilotOf s x p = is_pilot s x is p c.in_ok-pilot.ensures.value c.in_ok-pilot.ensures.square in
     let y = c.in_ok-y.y in
@@ -65,7 +65,7 @@ returns-clause-answer g c =
     let w = c.in_ok-w.w in
     let s : Stack = stack_of c.args.table.now c.args.right.now c.args.apriori.now c.args.scales.now in
     let x : Worked = record { table = w.a; right = w.d.items; exponents = w.e.items } in
-    let is : IsWorkedOf s x = is_worked s x c.in_ok-w.ensures.size c.in_ok-w.ensures.list (omega (arith, w.rows, w.d.ok.0)) (omega (arith, w.powers, w.e.ok.0)) w.words_small w.right_small c.in_ok-w.ensures.working in
+    let is : IsWorkedOf s x = is_worked s x c.in_ok-w.ensures.size c.in_ok-w.ensures.list (omega (arith, w.rows, w.d.ok.0)) (omega (arith, w.powers, w.e.ok.0)) w.entries_small w.right_small c.in_ok-w.ensures.working in
     let p = c.in_ok-pilot.pilot in
     let of_p : IsPilotOf s x p = is_pilot s x is p c.in_ok-pilot.ensures.value c.in_ok-pilot.ensures.square in
     let y = c.in_ok-y.y in

@@ -1,6 +1,6 @@
 use Rattle.std.proofs.Common.{arith, rules, ◌≡◌, ◌∙◌, ◌*◌, ◌<◌, ℕ, ap, sym, subst, FitsSigned, w64}
 use Rattle.std.proofs.lemmas.Int.{to_z-of_z}
-use Rattle.enclosure_check.proofs.DefectLaws.{StandAt, ends_push, ends_small, words_of_rows}
+use Rattle.enclosure_check.proofs.DefectLaws.{StandAt, ends_push, ends_small, entries_of_rows}
 use Rattle.enclosure_check.proofs.row_defects.Squares.of.Goals as goal
 
 pub loop-place-preserved : goal.loop-place-preserved
@@ -15,7 +15,7 @@ loop-place-preserved g c =
     record {
       lows = omega (arith, c.in_ok-push.ensures.len, c.loop-place.invariant.lows);
       highs = omega (arith, c.in_ok-push-2.ensures.len, c.loop-place.invariant.highs);
-      words = rw (low, high) (ends_push c.size-size.result c.loop-place.place c.args.a.now l.items h.items e.result.0 e.result.1 (omega (arith, c.loop-place.invariant.lows, l.ok.0)) (omega (arith, c.loop-place.invariant.highs, h.ok.0)) e.ensures.low e.ensures.high c.loop-place.invariant.words);
+      entries = rw (low, high) (ends_push c.size-size.result c.loop-place.place c.args.a.now l.items h.items e.result.0 e.result.1 (omega (arith, c.loop-place.invariant.lows, l.ok.0)) (omega (arith, c.loop-place.invariant.highs, h.ok.0)) e.ensures.low e.ensures.high c.loop-place.invariant.entries);
     }
 
 pub invariant_of-result : goal.invariant_of-result
@@ -25,7 +25,7 @@ invariant_of-result g c =
     let l = c.loop-place.low in
     let h = c.loop-place.high in
     let end : c.loop-place.place ≡ n * n = omega arith in
-    let each = subst (StandAt n a l.items h.items) end c.loop-place.invariant.words in
+    let each = subst (StandAt n a l.items h.items) end c.loop-place.invariant.entries in
     let small = λ (x : ℕ) (b : x < n * n). ends_small n a l.items h.items x (λ i j p q. c.requires.small i j (omega (arith, c.size-size.ensures.value)) (omega (arith, c.size-size.ensures.value))) each b in
     record {
       few = omega (arith, ap (λ s. s.size) c.new.ensures, c.size-size.ensures.bound);
@@ -34,11 +34,11 @@ invariant_of-result g c =
       high_ends = rw c.new-2.ensures (λ x b. omega (arith, small x (omega (arith, c.loop-place.invariant.highs, h.ok.0, end))));
     }
 
-pub returns-clause-words : goal.returns-clause-words
-returns-clause-words g c =
+pub returns-clause-entries : goal.returns-clause-entries
+returns-clause-entries g c =
     let n = c.size-size.result in
     let l = c.loop-place.low in
     let h = c.loop-place.high in
     let end : c.loop-place.place ≡ n * n = omega arith in
-    let each = subst (StandAt n c.args.a.now l.items h.items) end c.loop-place.invariant.words in
-    rw (c.new.ensures, c.new-2.ensures, ← c.size-size.ensures.value) (words_of_rows n c.args.a.now l.items h.items each)
+    let each = subst (StandAt n c.args.a.now l.items h.items) end c.loop-place.invariant.entries in
+    rw (c.new.ensures, c.new-2.ensures, ← c.size-size.ensures.value) (entries_of_rows n c.args.a.now l.items h.items each)
