@@ -1,2 +1,5 @@
 mod WordTests
 mod Tested
+mod NameOrder
+mod Turns
+pub mod Alone

@@ -1,11 +1,13 @@
 -- A control file is read in steps, of which the first that refuses gives the answer.
 use Rattle.std.proofs.Common.{◌≡◌, ℕ, List, Result, Ok, Err, Option, refl}
+use Rattle.std.specs.Prelude.{IfOk, IfErr}
 use Rattle.stated_order.specs.Steps.{Then}
 use Rattle.stated_order.proofs.StepLaws.{then_gives, then_stops}
 use Rattle.desk_io.specs.Content.{File}
 use Rattle.control_doc.specs.Plain.{PlainControl}
 use Rattle.refusal_lines.specs.declared.refusal.Refusal.{Refusal}
 use Rattle.run_inputs.specs.Words.{CombinedFiles}
+use Rattle.run_inputs.specs.Views.{IfTold}
 use Rattle.run_inputs.specs.Files.{ReadsFile, control_limit}
 use Rattle.run_inputs.specs.Controls.{SaysControl, SaysRun, ReadsControl, apart, built}
 
@@ -43,3 +45,14 @@ file_refused names files refusal h = then_stops (ReadsFile control_limit names.c
 pub by_text : (names : CombinedFiles) (files : List ℕ → Option File) (text : List ℕ) (r : Result PlainControl Refusal) → ReadsFile control_limit names.control (files names.control) (Ok text)
     → SaysRun names text r → ReadsControl names files r
 by_text names files text r read h = then_gives (ReadsFile control_limit names.control (files names.control)) (SaysRun names) text r read h
+
+module _ (names : CombinedFiles) (files : List ℕ → Option File) (text : List ℕ) where
+  pub given_by_text : {T : Type 0} (view : T → PlainControl) (r : Result T Refusal) → ReadsFile control_limit names.control (files names.control) (Ok text) → IfOk r (λ x. SaysRun names text (Ok (view x)))
+      → IfOk r (λ x. ReadsControl names files (Ok (view x)))
+  given_by_text view (Ok x) read h = by_text names files text (Ok (view x)) read h
+  given_by_text view (Err refusal) read h = tt
+
+  pub refused_by_text : {T : Type 0} (r : Result T Refusal) → ReadsFile control_limit names.control (files names.control) (Ok text) → IfErr r (IfTold (λ refusal. SaysRun names text (Err refusal)))
+      → IfErr r (IfTold (λ refusal. ReadsControl names files (Err refusal)))
+  refused_by_text (Ok x) read h = tt
+  refused_by_text (Err refusal) read h = λ a b. by_text names files text (Err refusal) read (h a b)

@@ -4,6 +4,7 @@ ghost use Rattle.std.specs.Prelude.{◌≡◌, ◌≢◌, ◌≤◌, map, IsTrue
 ghost use Rattle.std.specs.List.{find};
 ghost use Rattle.std.specs.Option.{option_map};
 ghost use Rattle.desk_io.specs.Content.{KeepsAll};
+ghost use Rattle.control_doc.specs.Valid.{IsValidControl};
 ghost use Rattle.control_doc.specs.Views.{control_view, plan_view};
 ghost use Rattle.refusal_lines.specs.Refusals.{status_of};
 ghost use Rattle.run_inputs.specs.Controls.{ReadsControl, SaysControl, SaysRun, is_named, apart_from, built_of};
@@ -83,6 +84,7 @@ fn all_built(alloc: Global, from: &str, control: &Control) -> Result<(), Refusal
 // The control that a text says.
 fn said(alloc: Global, text: &[u8]) -> Result<Control, Refusal>
     ensures control { IfOk result (λ control. SaysControl text.now (Ok (control_view control))) }
+    ensures valid { IfOk result (λ control. IsValidControl (control_view control)) }
     ensures refused { IfErr result (IfTold (λ refusal. SaysControl text.now (Err refusal))) }
     ensures no_fault { IfErr result (λ refusal. status_of refusal ≢ 5) }
 {
@@ -99,6 +101,7 @@ fn said(alloc: Global, text: &[u8]) -> Result<Control, Refusal>
 // The control that a text says, of which a run is made.
 fn run_said(alloc: Global, names: &CombineNames<'_>, text: &[u8]) -> Result<Control, Refusal>
     ensures control { IfOk result (λ control. SaysRun (combined_files names.now) text.now (Ok (control_view control))) }
+    ensures valid { IfOk result (λ control. IsValidControl (control_view control)) }
     ensures refused { IfErr result (IfTold (λ refusal. SaysRun (combined_files names.now) text.now (Err refusal))) }
     ensures no_fault { IfErr result (λ refusal. status_of refusal ≢ 5) }
 {
@@ -120,6 +123,7 @@ pub fn read_control_file<D: Desk>(
     desk: &mut D,
 ) -> Result<Control, Refusal>
     ensures control { IsTrue D.tells → IfOk result (λ control. ReadsControl (combined_files names.now) (D.content desk.old).files (Ok (control_view control))) }
+    ensures valid { IfOk result (λ control. IsValidControl (control_view control)) }
     ensures refused { IsTrue D.tells → IfErr result (IfTold (λ refusal. ReadsControl (combined_files names.now) (D.content desk.old).files (Err refusal))) }
     ensures keeps { IsTrue D.tells → KeepsAll (D.content desk.old) (D.content desk.new) }
     ensures cause { HasStatusCause (D.faults desk.old) (D.faults desk.new) (status_in result) }

@@ -1,11 +1,12 @@
 //! The SINEX files of a run.
 
-ghost use Rattle.std.specs.Prelude.{◌≡◌, ◌≤◌, ◌++◌, ◌∷◌, [], ◌-◌, ◌^◌, map, min, sum, length, IsTrue, IfOk, IfErr, Ok, Err, All, string_bytes};
+ghost use Rattle.std.specs.Prelude.{◌≡◌, ◌≤◌, ◌^◌, map, min, sum, length, IsTrue, IfOk, IfErr, Ok, Err, All, string_bytes};
 ghost use Rattle.std.specs.Ordering.{nat_cmp};
 ghost use Rattle.std.specs.Cmp.Lexicographic.{slice_cmp};
 ghost use Rattle.desk_io.specs.Content.{KeepsAll};
 ghost use Rattle.snx_blocks.specs.Documents.{IsValid};
 ghost use Rattle.snx_blocks.specs.Views.{doc_view};
+ghost use Rattle.control_doc.specs.Valid.{IsValidControl};
 ghost use Rattle.control_doc.specs.Views.{control_view, plan_view};
 ghost use Rattle.run_inputs.specs.Files.{file_limit, total_limit};
 ghost use Rattle.run_inputs.specs.Inputs.{AreApart, AreInNameOrder, IsInputWithin, AreInputs, ReadsInputs};
@@ -87,14 +88,6 @@ fn read_input<'a, R: Threads + Sync, D: Desk>(
     Ok(Input { plan, size, doc })
 }
 
-// One more file.
-fn add_input<'a>(inputs: &mut Vec<Input<'a>>, input: Input<'a>) -> Result<(), AllocError>
-    ensures { IfOk result (λ _. inputs.new.items ≡ inputs.old.items ++ (input ∷ [])) }
-{
-    inputs.push(input)?;
-    Ok(())
-}
-
 // The files of plans in their order, one after another.
 fn read_in_turn<'a, R: Threads + Sync, D: Desk>(
     rt: &R,
@@ -113,7 +106,10 @@ fn read_in_turn<'a, R: Threads + Sync, D: Desk>(
     for plan in plans {
         let input = read_input(rt, alloc, *plan, limit_of(left), desk)?;
         left -= input.size;
-        add_input(&mut inputs, input)?;
+        match inputs.push(input) {
+            Ok(()) => {}
+            Err(e) => return Err(AllocError::from(e).into()),
+        }
     }
     Ok(inputs)
 }
@@ -130,7 +126,7 @@ pub fn read_inputs<'a, R: Threads + Sync, D: Desk>(
     control: &'a Control,
     desk: &mut D,
 ) -> Result<Vec<Input<'a>>, Refusal>
-    requires { AreApart (control_view control.now).files }
+    requires { IsValidControl (control_view control.now) }
     ensures inputs { IsTrue D.tells → IfOk result (λ inputs. ReadsInputs (control_view control.now).files (D.content desk.old).files (Ok (map input_view inputs.items))) }
     ensures valid { IfOk result (λ inputs. All (λ input. IsValid (doc_view input.doc)) inputs.items) }
     ensures refused { IsTrue D.tells → IfErr result (IfTold (λ refusal. ReadsInputs (control_view control.now).files (D.content desk.old).files (Err refusal))) }
