@@ -1,1 +1,5 @@
-mod Words
+mod WordTests
+mod Tested
+mod NameOrder
+mod Turns
+pub mod Alone

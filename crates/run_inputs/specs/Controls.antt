@@ -41,12 +41,15 @@ built_of name datum reductions = Err (Unbuilt name)
 abbrev pub built : CombinedFiles → PlainControl → Result (Unit {0}) Refusal
 built names control = built_of names.control control.datum control.reductions
 
--- The control of a combination: its file is there and is not too long, it says a control, no listed file is also the control file or
--- an output, and all that it asks for is built.
-abbrev pub ReadsControl : CombinedFiles → (List ℕ → Option File) → Result PlainControl Refusal → Type 0
-ReadsControl names files =
-    Then (ReadsFile control_limit names.control (files names.control)) (λ text.
+-- what the text of a control file says; or its first fault, or why no run is made of it
+abbrev pub SaysRun : CombinedFiles → List ℕ → Result PlainControl Refusal → Type 0
+SaysRun names text =
     Then (SaysControl text) (λ control.
     Then (λ r. r ≡ apart names control) (λ kept_apart.
     Then (λ r. r ≡ built names control) (λ all_built r.
-    r ≡ Ok control))))
+    r ≡ Ok control)))
+
+-- The control of a combination: its file is there and is not too long, it says a control, no listed file is also the control file or
+-- an output, and all that it asks for is built.
+abbrev pub ReadsControl : CombinedFiles → (List ℕ → Option File) → Result PlainControl Refusal → Type 0
+ReadsControl names files = Then (ReadsFile control_limit names.control (files names.control)) (SaysRun names)

@@ -3,3 +3,4 @@ pub mod Files
 pub mod Controls
 pub mod Inputs
 pub mod Views
+pub mod Single

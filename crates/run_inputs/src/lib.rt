@@ -4,9 +4,11 @@
 mod controls;
 mod files;
 mod inputs;
+mod laws;
 mod words;
 
 pub use controls::read_control_file;
-pub use files::named;
+pub use files::{named, read_file, read_text};
+pub use laws::one_reading;
 pub use inputs::{Input, read_inputs};
 pub use words::{CombineNames, Command, SolveNames, read_words};

@@ -1,5 +1,5 @@
 use Rattle.std.proofs.Common.{map, string_bytes}
-use Rattle.run_inputs.proofs.Words.{four_words, words_combine, no_combine}
+use Rattle.run_inputs.proofs.WordTests.{four_words, words_combine, no_combine}
 use Rattle.run_inputs.proofs.words.combine_in.Goals as goal
 
 pub returns-else-is_combine-clause-none : goal.returns-else-is_combine-clause-none

@@ -1,5 +1,5 @@
 use Rattle.std.proofs.Common.{map, string_bytes}
-use Rattle.run_inputs.proofs.Words.{three_words, words_solve, no_solve}
+use Rattle.run_inputs.proofs.WordTests.{three_words, words_solve, no_solve}
 use Rattle.run_inputs.proofs.words.solve_in.Goals as goal
 
 pub returns-else-is_solve-clause-none : goal.returns-else-is_solve-clause-none
