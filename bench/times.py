@@ -4,16 +4,22 @@
     bench/times.py kernels [ROWS ..]    factor, columns and defects; the default is 300 and 900 rows
     bench/times.py solve [ROWS ..]      the whole program on files that bench/make_file.py writes; the default is 30, 300 and 900
     bench/times.py read [ROWS ..]       reading such files, with one value on a matrix line and with three; the default is 900
+    bench/times.py combine [FILES ROWS SHARED]   a combination of networks; the default is 8 files of 300 unknowns, 210 in all
+    bench/times.py memory [FILES ROWS SHARED]    the memory of one; the default is 64 files of 900 unknowns, 30 in all
 
-It proves and builds crates/step_times and the program first, and compiles bench/kernels.cpp with g++ -O2. Each command runs five
-times, in turn with the yardstick, and the least time of each step counts. Times are of the wall clock, in milliseconds; memory
-is the greatest resident set of the process, and at least this script's own, from which it starts. The columns are the pilot without its factor. The defects are the certificate whole, with
-its working copies, its errors and its radii. Reading is beside bench/reading.cpp, which tests nothing of what it reads.
+It proves and builds crates/step_times and the program first, and compiles the yardsticks with g++ -O2. Each command runs five
+times, in turn with the yardstick, and the least time of each step counts; a combination runs three times, and the median counts.
+Times are of the wall clock, in milliseconds; memory is the greatest resident set of the process, and at least this script's own,
+from which it starts. The columns are the pilot without its factor. The defects are the certificate whole, with its working
+copies, its errors and its radii. Reading is beside bench/reading.cpp, which tests nothing of what it reads. Of a combination the
+rest is what remains of the whole after reading and recovery: the sum, its solution and the writing. The memory is measured of one
+run, which may end with a refusal.
 """
 
 import os
 import pathlib
 import re
+import statistics
 import subprocess
 import sys
 import tempfile
@@ -21,6 +27,7 @@ import time
 
 TOP = pathlib.Path(__file__).resolve().parent.parent
 RUNS = 5
+COMBINATION_RUNS = 3
 KERNELS = ("factor", "columns", "defects")
 
 
@@ -30,14 +37,24 @@ def build(crate, words):
     return folder / "out" / crate
 
 
-def run(command):
-    """What the command writes, its milliseconds and its megabytes."""
+def built_solver():
+    return build("snxcomb", ["solve", "data/two-stations.snx", "/dev/null"])
+
+
+def tried(command, folder=None):
+    """What the command writes, to its output and its errors in one; its status, its milliseconds and its megabytes."""
     start = time.monotonic()
-    process = subprocess.Popen(command, stdout=subprocess.PIPE)
+    process = subprocess.Popen(command, cwd=folder, stdout=subprocess.PIPE, stderr=subprocess.STDOUT)
     text = process.stdout.read().decode()
     _, status, usage = os.wait4(process.pid, 0)
-    assert status == 0, command
-    return text, 1000 * (time.monotonic() - start), usage.ru_maxrss / 1024
+    return text, os.waitstatus_to_exitcode(status), 1000 * (time.monotonic() - start), usage.ru_maxrss / 1024
+
+
+def run(command, folder=None):
+    """What the command writes, its milliseconds and its megabytes. It must succeed."""
+    text, status, whole, peak = tried(command, folder)
+    assert status == 0, (command, status, text)
+    return text, whole, peak
 
 
 def numbers(text):
@@ -111,6 +128,55 @@ def read(program, yardstick, sizes, folder):
             print(f"{rows} rows, {values} a line, {size:.1f} MB: {min(mine):.0f} ms, C++ {min(theirs):.0f} ms, ratio {ratio:.2f}")
 
 
+def networks(folder, files, rows, shared):
+    """The files of a combination, made in the folder."""
+    words = [str(folder), str(files), str(rows), str(shared)]
+    subprocess.run([TOP / "bench" / "make_file.py", "networks", *words], check=True)
+    return sorted(str(file) for file in folder.glob("network-*.snx"))
+
+
+def summed(text):
+    """The sum of each step over all lines."""
+    lines = [numbers(line) for line in text.splitlines()]
+    return {step: sum(t[step] for t in lines) for step in lines[0]}
+
+
+def combination_runs(program, solver, loops, reader, names, rows, folder):
+    """Each step of each run, of the program and of the yardsticks; the memory."""
+    for _ in range(COMBINATION_RUNS):
+        t = summed(run([program, "combine", *names])[0])
+        _, t["whole"], t["memory"] = run([solver, "combine", "control.toml", "out.snx", "report"], folder)
+        t["rest"] = t["whole"] - t["read"] - t["recover"]
+        t["loops"] = sum(yardstick_steps(loops, rows).values())
+        t["reading"] = sum(1000 * numbers(run([reader, name])[0])["read"] for name in names)
+        yield t
+
+
+def combine(program, solver, loops, reader, sizes, folder):
+    files, rows, shared = sizes
+    together = shared + files * (rows - shared)
+    assert together <= 1000, f"{together} names, and a combination has at most 1,000"
+    names = networks(folder, files, rows, shared)
+    runs = list(combination_runs(program, solver, loops, reader, names, together, folder))
+    t = {step: statistics.median(one[step] for one in runs) for step in runs[0]}
+    yardstick = t["loops"] + t["reading"]
+    print(f"{files} files of {rows} unknowns, {shared} of them in all, {together} names; in milliseconds, medians of {COMBINATION_RUNS} runs:")
+    print("  " + ", ".join(f"{step} {t[step]:.0f}" for step in ("read", "recover", "rest", "whole")) + f"; memory {t['memory']:.0f} MB")
+    print(f"  C++: reading {t['reading']:.0f}, loops {t['loops']:.0f}")
+    if t["reading"] < 10 or t["loops"] < 10:
+        print("  ratios: too short to tell")
+    else:
+        print(f"  ratios: reading {t['read'] / t['reading']:.2f}, rest {t['rest'] / t['loops']:.2f}, whole {t['whole'] / yardstick:.2f}")
+
+
+def memory(solver, sizes, folder):
+    files, rows, shared = sizes
+    networks(folder, files, rows, shared)
+    text, status, whole, peak = tried([solver, "combine", "control.toml", "out.snx", "report"], folder)
+    print(f"{files} files of {rows} unknowns, {shared} of them in all: status {status}, {text.strip()!r}")
+    print(f"  {whole / 1000:.1f} s, memory {peak:.0f} MB")
+
+
 def compiled(folder, name):
     subprocess.run(["g++", "-O2", "-o", folder / name, TOP / "bench" / f"{name}.cpp"], check=True)
     return folder / name
@@ -119,14 +185,18 @@ def compiled(folder, name):
 def main(what, sizes):
     with tempfile.TemporaryDirectory() as name:
         folder = pathlib.Path(name)
+        if what == "memory":
+            return memory(built_solver(), sizes or [64, 900, 30], folder)
         program = build("step_times", ["table", "3", "quiet"])
         if what == "kernels":
             kernels(program, compiled(folder, "kernels"), sizes or [300, 900])
         elif what == "read":
             read(program, compiled(folder, "reading"), sizes or [900], folder)
+        elif what == "combine":
+            loops, reader = compiled(folder, "kernels"), compiled(folder, "reading")
+            combine(program, built_solver(), loops, reader, sizes or [8, 300, 210], folder)
         else:
-            solver = build("snxcomb", ["solve", "data/two-stations.snx", "/dev/null"])
-            solve(program, solver, compiled(folder, "kernels"), sizes or [30, 300, 900], folder)
+            solve(program, built_solver(), compiled(folder, "kernels"), sizes or [30, 300, 900], folder)
 
 
 if __name__ == "__main__":

@@ -1,24 +1,22 @@
 //! The steps, one after another, each with its time.
 
 ghost use Rattle.std.specs.Prelude.{IfOk};
-ghost use Rattle.snx_blocks.specs.Documents.{IsValid};
-ghost use Rattle.snx_blocks.specs.Views.{doc_view};
+ghost use Rattle.neq_stack.specs.Neqs.{IsSound, neq_view};
 
+use crate::calls::{doc_in, factored, neq_of, pilot_of, radius_of, solved, vector_of, working_of};
 use crate::tables::strongly_diagonal;
 use anyhow::{Result, bail};
-use chol_factor::factor;
-use chol_guess::{midpoint_square, pilot};
-use enclosure_check::{check, start_vector};
 use equil::{Working, working};
 use interval_word::Iv;
 use neq_stack::Neq;
-use param_ids::Scales;
-use recover_neq::recover;
-use snx_blocks::{Doc, read_doc};
-use stack_rules::certify;
 use std::fs::{self, Files};
 use std::thread::Threads;
 use std::time::{Clock, Instant};
+
+/// The milliseconds since a moment.
+fn since<R: Clock>(rt: &R, start: &Instant) -> Result<u128> {
+    Ok(start.elapsed(rt)?.as_millis())
+}
 
 /// The steps from the working table to its certificate.
 fn working_steps<R: Threads + Sync + Clock + Print + AllocGlobal>(
@@ -28,18 +26,17 @@ fn working_steps<R: Threads + Sync + Clock + Print + AllocGlobal>(
 ) -> Result<()> {
     let alloc = rt.alloc();
     let start = Instant::now(rt)?;
-    let midpoints = midpoint_square(alloc, w)?;
-    let _factor = factor(midpoints)?;
-    let factor = start.elapsed(rt)?.as_millis();
+    factored(alloc, w)?;
+    let factor = since(rt, &start)?;
     let start = Instant::now(rt)?;
-    let p = pilot(rt, alloc, w, 1)?;
-    let pilot = start.elapsed(rt)?.as_millis();
+    let p = pilot_of(rt, alloc, w)?;
+    let pilot = since(rt, &start)?;
     let start = Instant::now(rt)?;
-    let y = start_vector(alloc, w, &p)?;
-    let vector = start.elapsed(rt)?.as_millis();
+    let y = vector_of(alloc, w, &p)?;
+    let vector = since(rt, &start)?;
     let start = Instant::now(rt)?;
-    let radius = check(rt, alloc, w, &p, &y, 1)?;
-    let check = start.elapsed(rt)?.as_millis();
+    let radius = radius_of(rt, alloc, w, &p, &y)?;
+    let check = since(rt, &start)?;
     println!(rt; "g={} B={} M={}", p.g(), radius.b, radius.m)?;
     if !is_quiet {
         println!(rt; "factor {factor} pilot {pilot} vector {vector} check {check}")?;
@@ -63,14 +60,47 @@ pub fn table_steps<R: Threads + Sync + Clock + Print + AllocGlobal>(
     working_steps(rt, &w, is_quiet)
 }
 
-/// The document that a text is.
-fn doc_in<R: Threads + Sync + AllocGlobal>(rt: &R, text: &[u8]) -> Result<Doc>
-    ensures { IfOk result (λ doc. IsValid (doc_view doc)) }
+/// The steps of normal equations, and then all of them once more together.
+fn neq_steps<R: Threads + Sync + Clock + Print + AllocGlobal>(
+    rt: &R,
+    neq: &Neq<16>,
+    is_quiet: bool,
+) -> Result<()>
+    requires { IsSound (neq_view neq.now) }
 {
-    if text.len() > 67_108_864 {
-        bail!("the file has more than 64 MiB");
+    let alloc = rt.alloc();
+    let start = Instant::now(rt)?;
+    let w = working_of(alloc, neq)?;
+    let tables = since(rt, &start)?;
+    working_steps(rt, &w, is_quiet)?;
+    let start = Instant::now(rt)?;
+    solved(rt, alloc, neq)?;
+    let solve = since(rt, &start)?;
+    if !is_quiet {
+        println!(rt; "tables {tables} solve {solve}")?;
     }
-    Ok(read_doc(rt, rt.alloc(), text)?)
+    Ok(())
+}
+
+/// The normal equations of a SINEX file, with the times of reading and of recovery.
+fn recovered<R: Threads + Sync + Clock + Files + Print + AllocGlobal>(
+    rt: &R,
+    name: &str,
+    is_quiet: bool,
+) -> Result<Neq<16>>
+    ensures { IfOk result (λ neq. IsSound (neq_view neq)) }
+{
+    let start = Instant::now(rt)?;
+    let text = fs::read(rt, name)?;
+    let doc = doc_in(rt, &text)?;
+    let read = since(rt, &start)?;
+    let start = Instant::now(rt)?;
+    let neq = neq_of(rt.alloc(), &doc)?;
+    let recover = since(rt, &start)?;
+    if !is_quiet {
+        println!(rt; "read {read} recover {recover}")?;
+    }
+    Ok(neq)
 }
 
 /// The steps of a SINEX file, and those of its normal equations once more together.
@@ -79,32 +109,17 @@ pub fn file_steps<R: Threads + Sync + Clock + Files + Print + AllocGlobal>(
     name: &str,
     is_quiet: bool,
 ) -> Result<()> {
-    let alloc = rt.alloc();
-    let start = Instant::now(rt)?;
-    let text = fs::read(rt, name)?;
-    let doc = doc_in(rt, &text)?;
-    let read = start.elapsed(rt)?.as_millis();
-    let start = Instant::now(rt)?;
-    let scales = Scales::standard(alloc)?;
-    let neq: Neq<16> = recover(alloc, &doc, &scales)?;
-    let recover = start.elapsed(rt)?.as_millis();
-    let start = Instant::now(rt)?;
-    let w = working(alloc, &neq.table, &neq.right)?;
-    let tables = start.elapsed(rt)?.as_millis();
-    working_steps(rt, &w, is_quiet)?;
-    let start = Instant::now(rt)?;
-    let _solved = certify(
-        rt,
-        alloc,
-        &neq.table,
-        &neq.right,
-        &neq.apriori,
-        &neq.scales,
-        1,
-    )?;
-    let solve = start.elapsed(rt)?.as_millis();
-    if !is_quiet {
-        println!(rt; "read {read} recover {recover} tables {tables} solve {solve}")?;
+    let neq = recovered(rt, name, is_quiet)?;
+    neq_steps(rt, &neq, is_quiet)
+}
+
+/// The steps of each SINEX file of a combination before it is added to the stack: reading and recovery, a line for each.
+pub fn combination_steps<R: Threads + Sync + Clock + Files + Print + AllocGlobal>(
+    rt: &R,
+    names: &[String],
+) -> Result<()> {
+    for name in names {
+        let _neq = recovered(rt, name.as_str(), false)?;
     }
     Ok(())
 }

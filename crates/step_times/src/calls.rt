@@ -1,0 +1,106 @@
+// The calls that are measured, with errors of one type. Each asks what its call needs, and answers what the next one needs.
+
+ghost use Rattle.std.specs.Prelude.{◌≡◌, IfOk, length, vec_len};
+ghost use Rattle.whole_numbers.specs.Lists.{at};
+ghost use Rattle.snx_blocks.specs.Documents.{IsValid};
+ghost use Rattle.snx_blocks.specs.Views.{doc_view};
+ghost use Rattle.neq_stack.specs.Neqs.{IsSound, neq_view};
+ghost use Rattle.enclosures.specs.Vectors.{IsSmall};
+
+use anyhow::{Result, bail};
+use chol_factor::factor;
+use chol_guess::{midpoint_square, pilot};
+use decimal_e::Dec;
+use enclosure_check::{check, start_vector};
+use enclosures::{Pilot, Radius};
+use equil::{Working, working};
+use neq_stack::Neq;
+use param_ids::Scales;
+use recover_neq::recover;
+use snx_blocks::{Doc, read_doc};
+use stack_rules::certify;
+use std::alloc::Global;
+use std::thread::Threads;
+
+// The document that a text is.
+pub(crate) fn doc_in<R: Threads + Sync + AllocGlobal>(rt: &R, text: &[u8]) -> Result<Doc>
+    ensures { IfOk result (λ doc. IsValid (doc_view doc)) }
+{
+    if text.len() > 67_108_864 {
+        bail!("the file has more than 64 MiB");
+    }
+    Ok(read_doc(rt, rt.alloc(), text)?)
+}
+
+// The normal equations of a document, with the weight 1 and the standard scale exponents.
+pub(crate) fn neq_of(alloc: Global, doc: &Doc) -> Result<Neq<16>>
+    requires { IsValid (doc_view doc.now) }
+    ensures { IfOk result (λ neq. IsSound (neq_view neq)) }
+{
+    let scales = Scales::standard(alloc)?;
+    let Some(weight) = Dec::new(1, 0) else {
+        bail!("no decimal is 1");
+    };
+    Ok(recover(alloc, doc, &weight, &scales)?)
+}
+
+// The working table of normal equations.
+pub(crate) fn working_of(alloc: Global, neq: &Neq<16>) -> Result<Working<16>>
+    requires { IsSound (neq_view neq.now) }
+{
+    Ok(working(alloc, &neq.table, &neq.right)?)
+}
+
+// The certified numbers of normal equations are made.
+pub(crate) fn solved<R: Threads + Sync>(rt: &R, alloc: Global, neq: &Neq<16>) -> Result<()>
+    requires { IsSound (neq_view neq.now) }
+{
+    let _numbers = certify(
+        rt,
+        alloc,
+        &neq.table,
+        &neq.right,
+        &neq.apriori,
+        &neq.scales,
+        1,
+    )?;
+    Ok(())
+}
+
+// The factor of a working table's midpoints is made.
+pub(crate) fn factored(alloc: Global, w: &Working<16>) -> Result<()> {
+    let midpoints = midpoint_square(alloc, w)?;
+    let _factor = factor(midpoints)?;
+    Ok(())
+}
+
+// The pilot of a working table.
+pub(crate) fn pilot_of<R: Threads + Sync>(rt: &R, alloc: Global, w: &Working<16>) -> Result<Pilot>
+    ensures { IfOk result (λ p. p.size ≡ w.now.a.size) }
+{
+    Ok(pilot(rt, alloc, w, 1)?)
+}
+
+// The start vector of a working table and its pilot.
+pub(crate) fn vector_of(alloc: Global, w: &Working<16>, p: &Pilot) -> Result<Vec<i128>>
+    requires { p.now.size ≡ w.now.a.size }
+    ensures len { IfOk result (λ y. vec_len y ≡ w.now.a.size) }
+    ensures small { IfOk result (λ y. IsSmall w.now.a.size (at y.items)) }
+{
+    Ok(start_vector(alloc, w, p)?)
+}
+
+// The radii of a start vector.
+pub(crate) fn radius_of<R: Threads + Sync>(
+    rt: &R,
+    alloc: Global,
+    w: &Working<16>,
+    p: &Pilot,
+    y: &[i128],
+) -> Result<Radius>
+    requires sizes { p.now.size ≡ w.now.a.size }
+    requires len { length y.now ≡ w.now.a.size }
+    requires small { IsSmall w.now.a.size (at y.now) }
+{
+    Ok(check(rt, alloc, w, p, y, 1)?)
+}
