@@ -5,14 +5,24 @@ use Rattle.desk_io.specs.Outputs.{NamedText}
 use Rattle.control_doc.specs.Plain.{PlainControl}
 use Rattle.run_inputs.specs.Words.{PlainCommand, AreCommand}
 use Rattle.run_inputs.specs.Inputs.{PlainInput, ReadsInputs}
-use Rattle.combine_cli.specs.Combination.{Texts, IsCombined}
+use Rattle.neq_stack.specs.Neqs.{PlainNeq}
+use Rattle.stack_rules.specs.Rules.{Numbers, IsAnswer}
+use Rattle.bounds_text.specs.Report.{numbers_report}
+use Rattle.combine_cli.specs.Combination.{Texts, IsCombined, stack_in}
 use Rattle.combine_cli.specs.Verdict.{HasControl, outputs_with}
-use Rattle.combine_cli.specs.Headline.{IsCertifiedReport}
+use Rattle.combine_cli.specs.Headline.{IsCertifiedReport, AreCertifiedOf}
 use Rattle.combine_cli.specs.declared.combining.Combined.{Combined}
 
 -- the texts of a combination in memory
 abbrev pub texts_view : Combined → Texts
 texts_view combined = record { out = combined.out.items; report = combined.report.items }
+
+-- The text tells numbers of the stack of these normal equations, and these are certified.
+pub record IsCertifiedText (neq : PlainNeq) (text : List ℕ) : Type 0 where
+  pub numbers : Numbers
+  pub answers : IsAnswer (stack_in neq) (Ok numbers)
+  pub tells : text ≡ numbers_report neq.names neq.units numbers
+  pub certified : AreCertifiedOf neq numbers
 
 -- The files of the control were read, they give these texts, and the report is certified.
 pub record IsTextsOf (control : PlainControl) (files : List ℕ → Option File) (texts : Texts) : Type 0 where

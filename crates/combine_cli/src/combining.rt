@@ -1,6 +1,6 @@
 //! From files that were read to the texts of their combination.
 
-ghost use Rattle.std.specs.Prelude.{◌≢◌, ◌≤◌, All, IfOk, IfErr, Ok, Err, length, map};
+ghost use Rattle.std.specs.Prelude.{◌≡◌, ◌≢◌, ◌≤◌, All, IfOk, IfErr, Ok, Err, length, map};
 ghost use Rattle.snx_blocks.specs.Documents.{IsValid};
 ghost use Rattle.snx_blocks.specs.Views.{doc_view};
 ghost use Rattle.refusal_lines.specs.Refusals.{status_of};
@@ -9,6 +9,10 @@ ghost use Rattle.combine_cli.specs.Combination.{IsCombined};
 ghost use Rattle.combine_cli.specs.Headline.{IsCertifiedReport};
 ghost use Rattle.combine_cli.specs.Plan.{texts_view};
 
+use crate::agreeing::all_agree;
+use crate::parts::parts_of;
+use crate::reporting::report_of;
+use crate::stacking::stack_of_parts;
 use control_doc::Control;
 use refusal_lines::Refusal;
 use run_inputs::Input;
@@ -22,6 +26,14 @@ pub struct Combined {
     pub out: Vec<u8>,
     /// The report of bounds.
     pub report: Vec<u8>,
+}
+
+// How many threads work: as many as the control says, from 1 to 16.
+fn workers_of(control: &Control) -> usize
+    ensures some { 1 ≤ result }
+    ensures few { result ≤ 16 }
+{
+    control.workers.max(1).min(16)
 }
 
 /// The combination of files that were read, in the order of their names.
@@ -44,5 +56,12 @@ pub fn combine_core<R: Threads + Sync>(
     ensures refused { IfErr result (IfTold (λ refusal. IsCombined control.now.scales (map input_view inputs.entry.items) (Err refusal))) }
     ensures no_fault { IfErr result (λ refusal. status_of refusal ≢ 5) }
 {
-    Err(Refusal::Memory)
+    all_agree(alloc, &inputs)?;
+    let parts = parts_of(alloc, &control.scales, inputs)?;
+    let neq = stack_of_parts(alloc, &parts)?;
+    let report = report_of(rt, alloc, &neq, workers_of(control))?;
+    Ok(Combined {
+        out: Vec::new(alloc),
+        report,
+    })
 }

@@ -1,9 +1,13 @@
 //! The top call: from the words of a command and the files of a desk to the files that it leaves and its status.
 #![tactic(auto)]
 
+mod agreeing;
 mod combining;
 mod decide;
 mod laws;
+mod parts;
+mod reporting;
+mod stacking;
 mod top;
 
 pub use combining::{Combined, combine_core};
