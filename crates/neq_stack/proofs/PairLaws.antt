@@ -5,8 +5,8 @@ use Rattle.std.proofs.lemmas.Bool.{cases_lt}
 use Rattle.std.proofs.lemmas.List.Elements.{Contains-append_cases, Contains-append_left, Contains-append_right}
 use Rattle.std.proofs.lemmas.Option.{slice_get_within}
 use Rattle.whole_numbers.specs.Intervals.{Interval, interval_add}
-use Rattle.sym_blocks.specs.Tables.{word, zero_interval}
-use Rattle.sym_blocks.proofs.Rows.{word_sym}
+use Rattle.sym_blocks.specs.Tables.{entry_at, zero_interval}
+use Rattle.sym_blocks.proofs.Rows.{entry_sym as table_sym}
 use Rattle.decimal_e.specs.Fractions.{IsAtMost}
 use Rattle.param_ids.specs.Plain.{PlainId}
 use Rattle.param_ids.specs.Tables.{IsScale}
@@ -66,7 +66,7 @@ module _ (one other neq : PlainNeq) (one_sound : IsSound one) (other_sound : IsS
   sound = record {
     names = (joined.union.rising, joined.few);
     rows = joined.rows;
-    words = joined.whole;
+    entries = joined.whole;
     rights = joined.right_length;
     values = joined.value_length;
     named_units = joined.unit_length;
@@ -122,17 +122,17 @@ module _ (one other neq : PlainNeq) (one_sound : IsSound one) (other_sound : IsS
             )
       ]
 
-  lower_entry : (i j : ℕ) (a b : PlainId) → j ≤ i → slice_get neq.names i ≡ Some a → slice_get neq.names j ≡ Some b → word neq.table i j ≡ interval_add (entry_in one a b) (entry_in other a b)
+  lower_entry : (i j : ℕ) (a b : PlainId) → j ≤ i → slice_get neq.names i ≡ Some a → slice_get neq.names j ≡ Some b → entry_at neq.table i j ≡ interval_add (entry_in one a b) (entry_in other a b)
   lower_entry i j a b low row col =
       joined.entries i j (slice_get_within neq.names i a row) low
       ∙ ap (λ w. interval_add w (entry_by other.table (places_in other neq.names) i j)) (entry_read one neq.names i j a b row col)
       ∙ ap (λ w. interval_add (entry_in one a b) w) (entry_read other neq.names i j a b row col)
 
-  entry : (i j : ℕ) (a b : PlainId) → slice_get neq.names i ≡ Some a → slice_get neq.names j ≡ Some b → word neq.table i j ≡ sum_of_intervals (map (λ part. entry_in part a b) (one ∷ other ∷ []))
+  entry : (i j : ℕ) (a b : PlainId) → slice_get neq.names i ≡ Some a → slice_get neq.names j ≡ Some b → entry_at neq.table i j ≡ sum_of_intervals (map (λ part. entry_in part a b) (one ∷ other ∷ []))
   entry i j a b row col =
       elim (cases_lt i j) [
         | inl above ↦
-            word_sym neq.table i j ∙ lower_entry j i b a (omega arith) col row
+            table_sym neq.table i j ∙ lower_entry j i b a (omega arith) col row
             ∙ ap (λ w. interval_add w (entry_in other b a)) (entry_sym one b a) ∙ ap (λ w. interval_add (entry_in one a b) w) (entry_sym other b a) ∙ sym (sum_two (entry_in one a b) (entry_in other a b))
         | inr low ↦ lower_entry i j a b low row col ∙ sym (sum_two (entry_in one a b) (entry_in other a b))
       ]

@@ -4,8 +4,8 @@ use Rattle.std.specs.List.{Any}
 use Rattle.std.proofs.lemmas.List.{get_or_default}
 use Rattle.std.proofs.lemmas.Option.{slice_get_within}
 use Rattle.whole_numbers.specs.Intervals.{Interval, interval_add}
-use Rattle.sym_blocks.specs.Tables.{SymTable, word, zero_interval}
-use Rattle.sym_blocks.proofs.Rows.{word_sym}
+use Rattle.sym_blocks.specs.Tables.{SymTable, entry_at, zero_interval}
+use Rattle.sym_blocks.proofs.Rows.{entry_sym as table_sym}
 use Rattle.param_ids.specs.Plain.{PlainId}
 use Rattle.neq_stack.specs.Neqs.{PlainNeq, IsSound}
 use Rattle.neq_stack.specs.ByName.{Parameter, HasParameter, entry_in, right_in, entry_at_places, right_at_place, place_in}
@@ -21,7 +21,7 @@ pub record IsPlaced (parts : List PlainNeq) (neq : PlainNeq) : Type 0 where
   pub names : AreNamesOf parts neq.names
   pub one : (id : PlainId) (p q : Parameter) → Any (λ part. HasParameter part id p) parts → Any (λ part. HasParameter part id q) parts → p ≡ q
   pub each : (k : ℕ) (id : PlainId) → slice_get neq.names k ≡ Some id → (p : Parameter) × StandsAt neq k p × Any (λ part. HasParameter part id p) parts
-  pub entries : (i j : ℕ) (a b : PlainId) → slice_get neq.names i ≡ Some a → slice_get neq.names j ≡ Some b → word neq.table i j ≡ sum_of_intervals (map (λ part. entry_in part a b) parts)
+  pub entries : (i j : ℕ) (a b : PlainId) → slice_get neq.names i ≡ Some a → slice_get neq.names j ≡ Some b → entry_at neq.table i j ≡ sum_of_intervals (map (λ part. entry_in part a b) parts)
   pub rights : (i : ℕ) (a : PlainId) → slice_get neq.names i ≡ Some a → slice_index_or neq.right i zero_interval ≡ sum_of_intervals (map (λ part. right_in part a) parts)
 
 -- ---- names that are not there
@@ -39,7 +39,7 @@ pub no_right : (neq : PlainNeq) (id : PlainId) → (Contains neq.names id → �
 no_right neq id none = ap (λ p. right_at_place neq.right p) (place_missing neq.names id none)
 
 -- ---- names that are there
-pub entry_there : (neq : PlainNeq) (i j : ℕ) (one other : PlainId) → place_in neq.names one ≡ Some i → place_in neq.names other ≡ Some j → entry_in neq one other ≡ word neq.table i j
+pub entry_there : (neq : PlainNeq) (i j : ℕ) (one other : PlainId) → place_in neq.names one ≡ Some i → place_in neq.names other ≡ Some j → entry_in neq one other ≡ entry_at neq.table i j
 entry_there neq i j one other row col = ap (λ p. entry_at_places neq.table p (place_in neq.names other)) row ∙ ap (λ p. entry_at_places neq.table (Some i) p) col
 
 pub right_there : (neq : PlainNeq) (i : ℕ) (id : PlainId) → place_in neq.names id ≡ Some i → right_in neq id ≡ slice_index_or neq.right i zero_interval
@@ -50,7 +50,7 @@ entry_turned : (table : SymTable) (p q : Option ℕ) → entry_at_places table p
 entry_turned table None None = refl
 entry_turned table None (Some j) = refl
 entry_turned table (Some i) None = refl
-entry_turned table (Some i) (Some j) = word_sym table i j
+entry_turned table (Some i) (Some j) = table_sym table i j
 
 pub entry_sym : (neq : PlainNeq) (one other : PlainId) → entry_in neq one other ≡ entry_in neq other one
 entry_sym neq one other = entry_turned neq.table (place_in neq.names one) (place_in neq.names other)

@@ -2,7 +2,7 @@
 use Rattle.std.specs.Prelude.{◌≡◌, ◌<◌, ◌≤◌, ℕ, List, Option, Some, None, IfSome, length, map, slice_get, slice_index_or}
 use Rattle.std.specs.Option.{option_or}
 use Rattle.whole_numbers.specs.Intervals.{Interval, interval_add}
-use Rattle.sym_blocks.specs.Tables.{SymTable, word, before, zero_interval}
+use Rattle.sym_blocks.specs.Tables.{SymTable, entry_at, before, zero_interval}
 use Rattle.param_ids.specs.Plain.{PlainId}
 use Rattle.param_ids.specs.Union.{IsUnion}
 use Rattle.neq_stack.specs.Neqs.{PlainNeq}
@@ -60,8 +60,8 @@ pub record IsJoined (one other neq : PlainNeq) : Type 0 where
   pub union : IsUnion one.names other.names neq.names
   pub few : length neq.names ≤ 1000
   pub rows : neq.table.size ≡ length neq.names
-  pub whole : length neq.table.words ≡ before neq.table.size
-  pub entries : (i j : ℕ) → i < length neq.names → j ≤ i → word neq.table i j ≡ interval_add (entry_by one.table (places_in one neq.names) i j) (entry_by other.table (places_in other neq.names) i j)
+  pub whole : length neq.table.entries ≡ before neq.table.size
+  pub entries : (i j : ℕ) → i < length neq.names → j ≤ i → entry_at neq.table i j ≡ interval_add (entry_by one.table (places_in one neq.names) i j) (entry_by other.table (places_in other neq.names) i j)
   pub right_length : length neq.right ≡ length neq.names
   pub rights : (i : ℕ) → i < length neq.names → slice_index_or neq.right i zero_interval ≡ interval_add (right_by one.right (places_in one neq.names) i) (right_by other.right (places_in other neq.names) i)
   pub value_length : length neq.apriori ≡ length neq.names

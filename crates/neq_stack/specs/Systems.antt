@@ -5,7 +5,7 @@ use Rattle.stated_order.specs.Lists.{AreEach}
 use Rattle.sys_model.specs.Scaling.{HoldsTimes, LiesInStack}
 use Rattle.sys_model.specs.Systems.{System, Table}
 use Rattle.whole_numbers.specs.Lists.{at}
-use Rattle.sym_blocks.specs.Tables.{word, zero_interval}
+use Rattle.sym_blocks.specs.Tables.{entry_at, zero_interval}
 use Rattle.param_ids.specs.Plain.{PlainId}
 use Rattle.neq_stack.specs.Neqs.{PlainNeq, IsSound}
 use Rattle.neq_stack.specs.ByName.{entry_in, right_in}
@@ -62,7 +62,7 @@ StackHolds = (exponent : PlainId → ℤ) (parts : List PlainNeq) (systems : Lis
 -- ---- systems in order
 -- the intervals of normal equations, by the places of their names
 abbrev pub table_in : PlainNeq → Table
-table_in neq = record { entry = word neq.table; right = λ i. slice_index_or neq.right i zero_interval }
+table_in neq = record { entry = entry_at neq.table; right = λ i. slice_index_or neq.right i zero_interval }
 
 -- a system that lies in normal equations by name lies in their intervals in order
 abbrev pub NeqLiesInStack : Type 0

@@ -2,7 +2,7 @@
 
 ghost use Rattle.std.specs.Prelude.{◌≡◌, ◌≢◌, ◌≤◌, ◌<◌, ℕ, IfSome, length};
 ghost use Rattle.whole_numbers.specs.Intervals.{interval_add};
-ghost use Rattle.sym_blocks.specs.Tables.{before, word, SumFits};
+ghost use Rattle.sym_blocks.specs.Tables.{before, entry_at, SumFits};
 ghost use Rattle.neq_stack.specs.ByName.{entry_at_places, right_at_place};
 ghost use Rattle.neq_stack.specs.Joining.{AreWithin, entry_by};
 
@@ -43,12 +43,12 @@ fn add_row<const N: usize>(
     requires row { row < into.old.size }
     requires lengths { length places.now ≡ into.old.size }
     requires within { AreWithin table.now.size places.now }
-    requires whole { length into.old.words ≡ before into.old.size }
-    requires fits { (j : ℕ) → j ≤ row → SumFits (word into.old row j) (entry_by table.now places.now row j) }
+    requires whole { length into.old.entries ≡ before into.old.size }
+    requires fits { (j : ℕ) → j ≤ row → SumFits (entry_at into.old row j) (entry_by table.now places.now row j) }
     ensures size { into.new.size ≡ into.old.size }
-    ensures whole { length into.new.words ≡ before into.new.size }
-    ensures here { (j : ℕ) → j ≤ row → word into.new row j ≡ interval_add (word into.old row j) (entry_by table.now places.now row j) }
-    ensures others { (i j : ℕ) → i < into.old.size → j ≤ i → i ≢ row → word into.new i j ≡ word into.old i j }
+    ensures whole { length into.new.entries ≡ before into.new.size }
+    ensures here { (j : ℕ) → j ≤ row → entry_at into.new row j ≡ interval_add (entry_at into.old row j) (entry_by table.now places.now row j) }
+    ensures others { (i j : ℕ) → i < into.old.size → j ≤ i → i ≢ row → entry_at into.new i j ≡ entry_at into.old i j }
 {
     let place = said_at(places, row);
     for col in 0..row + 1 {
@@ -66,11 +66,11 @@ pub fn add_table<const N: usize>(
 )
     requires lengths { length places.now ≡ into.old.size }
     requires within { AreWithin table.now.size places.now }
-    requires whole { length into.old.words ≡ before into.old.size }
-    requires fits { (i j : ℕ) → i < into.old.size → j ≤ i → SumFits (word into.old i j) (entry_by table.now places.now i j) }
+    requires whole { length into.old.entries ≡ before into.old.size }
+    requires fits { (i j : ℕ) → i < into.old.size → j ≤ i → SumFits (entry_at into.old i j) (entry_by table.now places.now i j) }
     ensures size { into.new.size ≡ into.old.size }
-    ensures whole { length into.new.words ≡ before into.new.size }
-    ensures added { (i j : ℕ) → i < into.old.size → j ≤ i → word into.new i j ≡ interval_add (word into.old i j) (entry_by table.now places.now i j) }
+    ensures whole { length into.new.entries ≡ before into.new.size }
+    ensures added { (i j : ℕ) → i < into.old.size → j ≤ i → entry_at into.new i j ≡ interval_add (entry_at into.old i j) (entry_by table.now places.now i j) }
 {
     for row in 0..places.len() {
         add_row(into, row, table, places);

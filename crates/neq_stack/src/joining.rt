@@ -2,7 +2,7 @@
 
 ghost use Rattle.std.specs.Prelude.{◌≡◌, ◌≤◌, ◌<◌, ◌+◌, ◌^◌, ◌⊎◌, ◌∷◌, ℕ, List, [], IfErr, IfOk, length, map, slice_index_or};
 ghost use Rattle.whole_numbers.specs.Intervals.{interval_add, size};
-ghost use Rattle.sym_blocks.specs.Tables.{before, word, zero_interval};
+ghost use Rattle.sym_blocks.specs.Tables.{before, entry_at, zero_interval};
 ghost use Rattle.param_ids.specs.Order.{IsNames};
 ghost use Rattle.param_ids.specs.Plain.{PlainId};
 ghost use Rattle.param_ids.specs.Union.{IsUnion};
@@ -39,9 +39,9 @@ fn table_of_both<const N: usize>(
         × ((i j : ℕ) → i < length ones.now → j < length ones.now → size (entry_by other.now others.now i j) ≤ more)
         × (most + more < 10 ^ 38) }
     ensures size { IfOk result (λ table. table.size ≡ length ones.now) }
-    ensures whole { IfOk result (λ table. length table.words ≡ before table.size) }
+    ensures whole { IfOk result (λ table. length table.entries ≡ before table.size) }
     ensures sums { IfOk result (λ table. (i j : ℕ) → i < length ones.now → j ≤ i
-        → word table i j ≡ interval_add (entry_by one.now ones.now i j) (entry_by other.now others.now i j)) }
+        → entry_at table i j ≡ interval_add (entry_by one.now ones.now i j) (entry_by other.now others.now i j)) }
 {
     let mut table = SymBlock::<N>::zero(alloc, ones.len())?;
     add_table(&mut table, one, ones);
@@ -129,9 +129,9 @@ fn table_over<const N: usize>(
     requires other { other.now.table.size ≡ length other.now.names }
     requires fit { (most : ℕ) × (more : ℕ) × AreAtMost most (neq_view one.now) × AreAtMost more (neq_view other.now) × (most + more < 10 ^ 38) }
     ensures size { IfOk result (λ table. table.size ≡ length layout.now.names) }
-    ensures whole { IfOk result (λ table. length table.words ≡ before table.size) }
+    ensures whole { IfOk result (λ table. length table.entries ≡ before table.size) }
     ensures sums { IfOk result (λ table. (i j : ℕ) → i < length layout.now.names → j ≤ i
-        → word table i j ≡ interval_add (entry_by one.now.table layout.now.ones.items i j) (entry_by other.now.table layout.now.others.items i j)) }
+        → entry_at table i j ≡ interval_add (entry_by one.now.table layout.now.ones.items i j) (entry_by other.now.table layout.now.others.items i j)) }
 {
     table_of_both(
         alloc,
