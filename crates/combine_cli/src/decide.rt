@@ -1,7 +1,8 @@
 // What a run is to do, decided before it writes or says anything.
-ghost use Rattle.std.specs.Prelude.{◌≡◌, ◌≤◌, IsTrue, IfErr, IfOk, Ok, Err, length, map, string_bytes};
+ghost use Rattle.std.specs.Prelude.{◌≡◌, IsTrue, IfErr, IfOk, Ok, Err, map, string_bytes};
 ghost use Rattle.desk_io.specs.Content.{KeepsAll};
 ghost use Rattle.desk_io.specs.Outputs.{named_text};
+ghost use Rattle.control_doc.specs.Valid.{IsValidControl};
 ghost use Rattle.control_doc.specs.Views.{control_view};
 ghost use Rattle.run_inputs.specs.Views.{command_view, status_in, IfTold, HasStatusCause};
 ghost use Rattle.combine_cli.specs.Verdict.{HasControl, Combines, IsVerdict, outputs_with};
@@ -18,7 +19,7 @@ use std::thread::Threads;
 // The control of a command.
 fn control_of<D: Desk>(alloc: Global, command: Command<'_>, desk: &mut D) -> Result<Control, Refusal>
     ensures control { IsTrue D.tells → IfOk result (λ control. HasControl (command_view command.entry) (D.content desk.old).files (Ok (control_view control))) }
-    ensures few { IfOk result (λ control. length control.files.items ≤ 64) }
+    ensures valid { IfOk result (λ control. IsValidControl (control_view control)) }
     ensures refused { IsTrue D.tells → IfErr result (IfTold (λ refusal. HasControl (command_view command.entry) (D.content desk.old).files (Err refusal))) }
     ensures keeps { IsTrue D.tells → KeepsAll (D.content desk.old) (D.content desk.new) }
     ensures cause { HasStatusCause (D.faults desk.old) (D.faults desk.new) (status_in result) }
@@ -39,7 +40,7 @@ fn texts_of<R: Threads + Sync, D: Desk>(
     control: &Control,
     desk: &mut D,
 ) -> Result<Combined, Refusal>
-    requires { length control.now.files.items ≤ 64 }
+    requires { IsValidControl (control_view control.now) }
     ensures texts { IsTrue D.tells → IfOk result (λ combined. IsTextsOf (control_view control.now) (D.content desk.old).files (texts_view combined)) }
     ensures refused { IsTrue D.tells → IfErr result (IfTold (λ refusal. Combines (control_view control.now) (D.content desk.old).files (Err refusal))) }
     ensures keeps { IsTrue D.tells → KeepsAll (D.content desk.old) (D.content desk.new) }
