@@ -10,3 +10,7 @@ pub mod RegroupLaws
 pub mod FewerLaws
 pub mod GrowLaws
 pub mod AtMostLaws
+pub mod MoveLaws
+pub mod Alone
+pub mod HoldLaws
+pub mod Laws
