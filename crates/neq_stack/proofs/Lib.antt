@@ -13,4 +13,6 @@ pub mod AtMostLaws
 pub mod MoveLaws
 pub mod Alone
 pub mod HoldLaws
+pub mod TableLaws
+pub mod SomeLaws
 pub mod Laws

@@ -1,7 +1,7 @@
 //! Normal equations by the names of their parameters.
 #![tactic(auto)]
 
-ghost use Rattle.neq_stack.specs.Stacks.{OneStack, StacksRegroup, StacksMove, StackIsAtMost};
+ghost use Rattle.neq_stack.specs.Stacks.{OneStack, StacksRegroup, StacksMove, SomeHaveStack, StackIsAtMost};
 ghost use Rattle.neq_stack.specs.Systems.{StackHolds, NeqLiesInStack};
 
 mod adding;
@@ -37,12 +37,13 @@ pub struct Neq<const N: usize> {
     pub scales: Vec<i32>,
 }
 
-/// Stacks are sums: parts have one stack at most, their order and grouping change nothing, and no interval of a stack passes in size
-/// the greatest of its parts times their number.
+/// Stacks are sums: parts have one stack at most, their grouping and order change nothing, some of the parts that have a stack have one
+/// too, and no interval of a stack passes in size the greatest of its parts times their number.
 pub fn stacks_add()
     ensures one { OneStack }
     ensures regroup { StacksRegroup }
     ensures moved { StacksMove }
+    ensures some { SomeHaveStack }
     ensures most { StackIsAtMost }
 {}
 
