@@ -1,11 +1,10 @@
 -- How great the intervals of a stack can be.
-use Rattle.std.proofs.Common.{◌≡◌, ◌≤◌, ◌+◌, ◌*◌, ℕ, List, [], ◌∷◌, All, length, map, sym, subst, arith}
+use Rattle.std.proofs.Common.{◌≤◌, ◌+◌, ◌*◌, ℕ, List, [], ◌∷◌, All, length, map, sym, subst, arith}
 use Rattle.std.proofs.lemmas.Int.{ints}
 use Rattle.std.proofs.lemmas.List.Elements.{All-tail}
 use Rattle.whole_numbers.specs.Intervals.{Interval, interval_add, size}
-use Rattle.neq_stack.specs.Neqs.{PlainNeq}
-use Rattle.neq_stack.specs.ByName.{AreAtMost, entry_in, right_in}
-use Rattle.neq_stack.specs.Stacks.{IsStackOf, StackIsAtMost, sum_of_intervals}
+use Rattle.neq_stack.specs.ByName.{entry_in, right_in}
+use Rattle.neq_stack.specs.Stacks.{StackIsAtMost, sum_of_intervals}
 
 size_of_sum : (a b : Interval) → size (interval_add a b) ≤ size a + size b
 size_of_sum a b = omega (arith, ints)

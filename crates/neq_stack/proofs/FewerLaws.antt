@@ -1,5 +1,5 @@
 -- Names among others.
-use Rattle.std.proofs.Common.{◌≡◌, ◌≤◌, ◌<◌, ◌+◌, ◌∙◌, inl, inr, ℕ, Bool, true, false, cond, not, List, [], ◌∷◌, Contains, length, get_or, refl, sym, ap, subst, arith}
+use Rattle.std.proofs.Common.{◌≡◌, ◌≤◌, ◌∙◌, inl, inr, Bool, true, false, cond, not, List, [], ◌∷◌, Contains, length, get_or, refl, sym, ap, subst, arith}
 use Rattle.std.specs.List.{Any, filter, list_any}
 use Rattle.std.proofs.lemmas.List.Elements.{filter_passes}
 use Rattle.std.proofs.lemmas.List.Filters.{length-filter_both}

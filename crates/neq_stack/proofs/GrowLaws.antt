@@ -1,5 +1,5 @@
 -- A stack that takes one more part.
-use Rattle.std.proofs.Common.{◌≡◌, ◌≤◌, ◌<◌, ◌+◌, ◌*◌, ◌^◌, ◌∙◌, ◌⊎◌, ◌++◌, inl, inr, ℕ, List, [], ◌∷◌, All, Contains, length, map, take, get_or, slice_get, refl, sym, ap, subst, arith}
+use Rattle.std.proofs.Common.{◌≡◌, ◌≤◌, ◌<◌, ◌+◌, ◌*◌, ◌^◌, ◌∙◌, ◌⊎◌, ◌++◌, inl, inr, ℕ, List, [], ◌∷◌, All, Contains, length, take, get_or, refl, sym, ap, subst, arith}
 use Rattle.std.specs.List.{Any}
 use Rattle.std.specs.List.Sorted.{IsPermutation}
 use Rattle.std.proofs.lemmas.List.{take_more, get_or-take, length-take, length-take-le, nil_from_length}
@@ -8,7 +8,7 @@ use Rattle.std.proofs.Math.Nat.{mul-le-mul_left}
 use Rattle.std.proofs.lemmas.List.Sorted.{length_permutation}
 use Rattle.param_ids.specs.Plain.{PlainId}
 use Rattle.neq_stack.specs.Neqs.{PlainNeq, IsSound}
-use Rattle.neq_stack.specs.ByName.{Parameter, HasParameter, Agree, AllAgree, AreAtMost}
+use Rattle.neq_stack.specs.ByName.{Agree, AllAgree, AreAtMost}
 use Rattle.neq_stack.specs.Stacks.{AreNamesOf, IsStackOf, HaveTooMany, IsRefused}
 use Rattle.neq_stack.specs.Joining.{HaveMany}
 use Rattle.neq_stack.specs.declared.stacking.StackError.{StackError}

@@ -10,3 +10,9 @@ pub mod RegroupLaws
 pub mod FewerLaws
 pub mod GrowLaws
 pub mod AtMostLaws
+pub mod MoveLaws
+pub mod Alone
+pub mod HoldLaws
+pub mod TableLaws
+pub mod SomeLaws
+pub mod Laws

@@ -1,10 +1,10 @@
 -- The stack of two parts.
-use Rattle.std.proofs.Common.{◌≡◌, ◌<◌, ◌≤◌, ◌∙◌, ◌⊎◌, ◌++◌, ◌^◌, inl, inr, ℕ, List, [], ◌∷◌, Option, Some, None, All, Contains, length, map, slice_get, slice_index_or, refl, sym, ap, subst, arith}
+use Rattle.std.proofs.Common.{◌≡◌, ◌<◌, ◌≤◌, ◌∙◌, ◌⊎◌, ◌^◌, inl, inr, ℕ, List, [], ◌∷◌, Option, Some, Contains, length, map, slice_get, slice_index_or, sym, ap, arith}
 use Rattle.std.specs.List.{Any}
 use Rattle.std.proofs.lemmas.Bool.{cases_lt}
 use Rattle.std.proofs.lemmas.List.Elements.{Contains-append_cases, Contains-append_left, Contains-append_right}
 use Rattle.std.proofs.lemmas.Option.{slice_get_within}
-use Rattle.whole_numbers.specs.Intervals.{Interval, interval_add}
+use Rattle.whole_numbers.specs.Intervals.{interval_add}
 use Rattle.sym_blocks.specs.Tables.{entry_at, zero_interval}
 use Rattle.sym_blocks.proofs.Rows.{entry_sym as table_sym}
 use Rattle.decimal_e.specs.Fractions.{IsAtMost}
@@ -12,13 +12,13 @@ use Rattle.param_ids.specs.Plain.{PlainId}
 use Rattle.param_ids.specs.Tables.{IsScale}
 use Rattle.param_ids.specs.Union.{IsUnion}
 use Rattle.neq_stack.specs.Neqs.{PlainNeq, IsSound}
-use Rattle.neq_stack.specs.ByName.{Parameter, HasParameter, Agree, entry_in, right_in, place_in}
+use Rattle.neq_stack.specs.ByName.{Parameter, HasParameter, Agree, entry_in, right_in}
 use Rattle.neq_stack.specs.Stacks.{AreNamesOf, IsStackOf, sum_of_intervals}
 use Rattle.neq_stack.specs.Joining.{IsJoined, places_in, place_at, entry_by, right_by, HaveMany}
 use Rattle.neq_stack.proofs.AnyLaws.{any_here, any_there, any_none, any_cases}
 use Rattle.neq_stack.proofs.ParameterLaws.{StandsAt, has_there, some_stands, one_parameter, first_here, first_there, all_first}
 use Rattle.neq_stack.proofs.PlaceLaws.{places_length, place_read, entry_read, right_read, one_has}
-use Rattle.neq_stack.proofs.PlacedLaws.{IsPlaced, placed_stack, entry_sym}
+use Rattle.neq_stack.proofs.PlacedLaws.{placed_stack, entry_sym}
 use Rattle.neq_stack.proofs.SumLaws.{sum_two}
 
 -- what one of two has

@@ -1,16 +1,15 @@
 -- Lists read at the places of names.
-use Rattle.std.proofs.Common.{◌≡◌, ◌≤◌, ◌<◌, ◌+◌, ◌∙◌, ◌++◌, ◌⊎◌, inl, inr, ℕ, zero, suc, List, [], ◌∷◌, Option, Some, None, IfSome, IsSome, Contains, length, map, get_or, slice_get, refl, sym, ap, subst, arith}
+use Rattle.std.proofs.Common.{◌≡◌, ◌≤◌, ◌<◌, ◌∙◌, ◌⊎◌, inl, inr, ℕ, zero, suc, List, [], ◌∷◌, Option, Some, None, IfSome, IsSome, length, slice_get, refl, sym, ap, subst, arith}
 use Rattle.std.proofs.lemmas.List.{length-map, get_or-map}
-use Rattle.std.proofs.lemmas.List.Elements.{Contains-append_cases, Contains-get_or}
-use Rattle.std.proofs.lemmas.Option.{slice_get-get_or, slice_get_within, get_or_from_slice_get, none-some}
-use Rattle.whole_numbers.specs.Intervals.{Interval, size}
+use Rattle.std.proofs.lemmas.List.Elements.{Contains-append_cases}
+use Rattle.std.proofs.lemmas.Option.{slice_get_within, get_or_from_slice_get}
+use Rattle.whole_numbers.specs.Intervals.{size}
 use Rattle.param_ids.specs.Plain.{PlainId}
-use Rattle.param_ids.specs.Order.{IsRising}
 use Rattle.param_ids.specs.Union.{IsUnion}
-use Rattle.neq_stack.specs.Neqs.{PlainNeq, IsSound}
+use Rattle.neq_stack.specs.Neqs.{PlainNeq}
 use Rattle.neq_stack.specs.ByName.{AreAtMost, entry_in, right_in, entry_at_places, right_at_place, place_in}
 use Rattle.neq_stack.specs.Joining.{AreWithin, AreFirst, place_at, places_in, entry_by, right_by, first_value}
-use Rattle.neq_stack.proofs.NameLaws.{place_cases, some_place, place_found}
+use Rattle.neq_stack.proofs.NameLaws.{place_cases}
 
 pub places_length : (part : PlainNeq) (names : List PlainId) → length (places_in part names) ≡ length names
 places_length part names = length-map names (place_in part.names)

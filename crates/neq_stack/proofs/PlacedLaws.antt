@@ -1,9 +1,7 @@
 -- Normal equations whose places have the intervals and parameters of some parts are the stack of these.
-use Rattle.std.proofs.Common.{◌≡◌, ◌<◌, ◌≤◌, ◌∙◌, ◌⊎◌, inl, inr, ℕ, List, [], ◌∷◌, Option, Some, None, All, Contains, length, map, get_or, slice_get, slice_index_or, refl, sym, ap, subst, arith}
+use Rattle.std.proofs.Common.{◌≡◌, ◌<◌, ◌∙◌, inl, inr, ℕ, List, Option, Some, None, Contains, length, map, get_or, slice_get, slice_index_or, refl, sym, ap, subst}
 use Rattle.std.specs.List.{Any}
 use Rattle.std.proofs.lemmas.List.{get_or_default}
-use Rattle.std.proofs.lemmas.Option.{slice_get_within}
-use Rattle.whole_numbers.specs.Intervals.{Interval, interval_add}
 use Rattle.sym_blocks.specs.Tables.{SymTable, entry_at, zero_interval}
 use Rattle.sym_blocks.proofs.Rows.{entry_sym as table_sym}
 use Rattle.param_ids.specs.Plain.{PlainId}

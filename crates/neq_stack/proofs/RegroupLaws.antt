@@ -1,5 +1,5 @@
 -- Stacks of stacks.
-use Rattle.std.proofs.Common.{◌≡◌, ◌≤◌, ◌<◌, ◌∙◌, ◌++◌, inl, inr, ℕ, List, [], ◌∷◌, Contains, map, refl, sym, ap, arith}
+use Rattle.std.proofs.Common.{◌≡◌, ◌∙◌, inl, inr, List, [], ◌∷◌, Contains, map, refl, sym, ap}
 use Rattle.std.specs.Prelude.{◌↔◌}
 use Rattle.std.specs.List.{Any, flat_map}
 use Rattle.std.proofs.lemmas.List.{map-append}
@@ -7,7 +7,7 @@ use Rattle.whole_numbers.specs.Intervals.{Interval, interval_add}
 use Rattle.stated_order.specs.Lists.{AreEach}
 use Rattle.param_ids.specs.Plain.{PlainId}
 use Rattle.neq_stack.specs.Neqs.{PlainNeq, IsSound}
-use Rattle.neq_stack.specs.ByName.{Parameter, HasParameter, entry_in, right_in}
+use Rattle.neq_stack.specs.ByName.{HasParameter, entry_in, right_in}
 use Rattle.neq_stack.specs.Stacks.{AreNamesOf, IsStackOf, StacksRegroup, sum_of_intervals}
 use Rattle.neq_stack.proofs.AnyLaws.{any_here, any_there, any_none, any_cases, any_left, any_right, any_either}
 use Rattle.neq_stack.proofs.SumLaws.{sum_append, sum_one}
@@ -16,7 +16,7 @@ use Rattle.neq_stack.proofs.SumLaws.{sum_append, sum_one}
 abbrev pub joined_groups : List (List PlainNeq) → List PlainNeq
 joined_groups groups = flat_map (λ group. group) groups
 
-each_weaker : {A B : Type 0} (R S : A → B → Type 0) → ((a : A) (b : B) → R a b → S a b) → (xs : List A) (ys : List B) → AreEach R xs ys → AreEach S xs ys
+pub each_weaker : {A B : Type 0} (R S : A → B → Type 0) → ((a : A) (b : B) → R a b → S a b) → (xs : List A) (ys : List B) → AreEach R xs ys → AreEach S xs ys
 each_weaker R S f [] [] h = h
 each_weaker R S f (x ∷ xs) (y ∷ ys) h = (f x y h.0, each_weaker R S f xs ys h.1)
 each_weaker R S f [] (y ∷ ys) h = h

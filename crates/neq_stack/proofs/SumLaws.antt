@@ -1,6 +1,5 @@
 -- Sums of intervals.
-use Rattle.std.proofs.Common.{◌≡◌, ◌≤◌, ◌<◌, ◌+◌, ◌*◌, ◌^◌, ◌∙◌, ◌++◌, ◌∷◌, ℕ, ℤ, pos, ◌+ℤ◌, List, [], All, map, length, FitsSigned, refl, sym, ap, subst, arith}
-use Rattle.std.specs.Int.{w128}
+use Rattle.std.proofs.Common.{◌≡◌, ◌≤◌, ◌<◌, ◌+◌, ◌^◌, ◌∙◌, ◌++◌, ◌∷◌, ℕ, List, [], All, map, refl, sym, ap, subst, arith}
 use Rattle.std.proofs.lemmas.Int.{ints}
 use Rattle.std.proofs.lemmas.List.Elements.{All-tail}
 use Rattle.whole_numbers.specs.Intervals.{Interval, interval_add, size}

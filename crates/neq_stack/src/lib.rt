@@ -1,6 +1,9 @@
 //! Normal equations by the names of their parameters.
 #![tactic(auto)]
 
+ghost use Rattle.neq_stack.specs.Stacks.{OneStack, StacksRegroup, StacksMove, SomeHaveStack, StackIsAtMost};
+ghost use Rattle.neq_stack.specs.Systems.{StackHolds, NeqLiesInStack};
+
 mod adding;
 mod joining;
 mod places;
@@ -33,3 +36,20 @@ pub struct Neq<const N: usize> {
     /// The scale exponents, from -4 to 6.
     pub scales: Vec<i32>,
 }
+
+/// Stacks are sums: parts have one stack at most, their grouping and order change nothing, some of the parts that have a stack have one
+/// too, and no interval of a stack passes in size the greatest of its parts times their number.
+pub fn stacks_add()
+    ensures one { OneStack }
+    ensures regroup { StacksRegroup }
+    ensures moved { StacksMove }
+    ensures some { SomeHaveStack }
+    ensures most { StackIsAtMost }
+{}
+
+/// The sum of systems that lie in parts lies in their stack, and systems that lie in normal equations by name lie in their intervals
+/// in order.
+pub fn stacks_hold()
+    ensures holds { StackHolds }
+    ensures in_order { NeqLiesInStack }
+{}

@@ -1,4 +1,4 @@
-use Rattle.std.proofs.Common.{◌<◌, ◌≤◌, ℕ, ◌∙◌, arith}
+use Rattle.std.proofs.Common.{◌<◌, ◌∙◌, arith}
 use Rattle.neq_stack.specs.Joining.{entry_by}
 use Rattle.neq_stack.proofs.AddLaws.{one_more_row}
 use Rattle.neq_stack.proofs.adding.add_table.Goals as goal

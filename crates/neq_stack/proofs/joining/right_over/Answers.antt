@@ -1,4 +1,4 @@
-use Rattle.std.proofs.Common.{◌≡◌, ◌≤◌, ◌<◌, ◌∙◌, ℕ, List, length, sym, ap, subst, arith}
+use Rattle.std.proofs.Common.{◌≤◌, ◌∙◌, List, length, sym, ap, subst, arith}
 use Rattle.whole_numbers.specs.Intervals.{Interval, size}
 use Rattle.neq_stack.specs.Neqs.{neq_view}
 use Rattle.neq_stack.specs.Joining.{right_by}

@@ -1,7 +1,6 @@
-use Rattle.std.proofs.Common.{◌≡◌, ◌≤◌, ◌<◌, ◌∙◌, length, sym, ap, subst, arith}
+use Rattle.std.proofs.Common.{◌≤◌, ◌<◌, ◌∙◌, length, sym, ap, subst, arith}
 use Rattle.whole_numbers.specs.Intervals.{Interval, size}
 use Rattle.neq_stack.specs.ByName.{right_at_place}
-use Rattle.neq_stack.specs.Joining.{right_by}
 use Rattle.neq_stack.proofs.SumLaws.{small_sum}
 use Rattle.neq_stack.proofs.joining.rights_of_both.Goals as goal
 

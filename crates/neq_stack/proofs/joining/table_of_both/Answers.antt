@@ -1,4 +1,4 @@
-use Rattle.std.proofs.Common.{◌≡◌, ◌<◌, ℕ, length, ◌∙◌, sym, arith}
+use Rattle.std.proofs.Common.{◌≡◌, ◌<◌, length, ◌∙◌, sym, arith}
 use Rattle.sym_blocks.specs.Tables.{entry_at}
 use Rattle.neq_stack.specs.Joining.{entry_by}
 use Rattle.neq_stack.proofs.SumLaws.{fits_on_zero, both_on_zero}

@@ -1,4 +1,4 @@
-use Rattle.std.proofs.Common.{◌≡◌, ◌∙◌, sym, arith}
+use Rattle.std.proofs.Common.{◌∙◌, sym, arith}
 use Rattle.neq_stack.specs.Neqs.{neq_view}
 use Rattle.neq_stack.proofs.PlaceLaws.{length_by, within_by, entry_small_by}
 use Rattle.neq_stack.proofs.joining.table_over.Goals as goal

@@ -1,4 +1,4 @@
-use Rattle.std.proofs.Common.{◌≡◌, ◌∙◌, length, sym, arith}
+use Rattle.std.proofs.Common.{◌∙◌, length, sym}
 use Rattle.neq_stack.proofs.PlaceLaws.{length_by, within_by, first_given_by}
 use Rattle.neq_stack.proofs.joining.values_over.Goals as goal
 
