@@ -26,7 +26,7 @@ use Rattle.run_inputs.specs.Inputs.{PlainInput, ReadsInputs}
 use Rattle.combine_cli.specs.Alike.{ungrouped, AreAlike, AlikeAreAdmitted, AlikeCombine}
 use Rattle.combine_cli.specs.Combination.{apriori_rows, Clash, ClashesWith, IsAgreed, AreAgreed, RecoversBy, Recovers, Part, IsPart, AreParts, Group, AreGroups, is_in_group, members, IsGroupStack, AreGroupStacks, IsWholeStack, StacksParts, Reports, Texts, IsCombined}
 use Rattle.combine_cli.specs.Verdict.{Combines}
-use Rattle.combine_cli.proofs.Below.{stacks_regroup, stacks_move, some_have_stack}
+use Rattle.neq_stack.proofs.Laws.{stacks_regroup, stacks_move, some_have_stack}
 use Rattle.combine_cli.proofs.EachLaws.{maps_from_each, any_alike, went_on, in_turn_alike}
 use Rattle.combine_cli.proofs.GroupLaws.{plans_in, neqs_in, all_members, groups_part, groups_exist}
 use Rattle.combine_cli.proofs.SoundParts.{parts_made, parts_sound}

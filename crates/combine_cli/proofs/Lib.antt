@@ -1,6 +1,5 @@
 pub mod AlikeInputs
 pub mod AlikeLaws
-pub mod Below
 pub mod Decisions
 pub mod EachLaws
 pub mod GroupLaws

@@ -29,7 +29,7 @@ use Rattle.refusal_lines.specs.declared.refusal.Refusal.{Refusal}
 use Rattle.run_inputs.specs.Inputs.{PlainInput}
 use Rattle.combine_cli.specs.Causes.{refusal_of_recovery, refusal_of_rules}
 use Rattle.combine_cli.specs.Combination.{IsAgreed, AreAgreed, RecoversBy, Recovers, Part, IsPart, AreParts, Group, place_of, group_cmp, AreGroups, IsGroupStack, AreGroupStacks, IsWholeStack, StacksParts, stack_in, Reports, IsCombined}
-use Rattle.combine_cli.proofs.Below.{stack_is_one}
+use Rattle.neq_stack.proofs.Laws.{stack_is_one}
 
 -- ---- one a priori value for each name
 agreed_step_is_one : (before : List PlainInput) (input : PlainInput) → IsOne (IsAgreed before input)

@@ -25,7 +25,7 @@ use Rattle.combine_cli.specs.Verdict.{Outcome, IsVerdict, HasControl, outputs_wi
 use Rattle.combine_cli.specs.Headline.{AreWritten, IsCertifiedRun}
 use Rattle.combine_cli.specs.Runs.{HasVerdict, AfterReading, Leaves, SaysPart, StoppedAt, StoppedThen, SaysMemory, SaysFault, Excuses, named_input, ReadsName}
 use Rattle.combine_cli.specs.Plan.{IsPlanned}
-use Rattle.combine_cli.proofs.Below.{words_are_one}
+use Rattle.run_inputs.proofs.Alone.{words_are_one}
 use Rattle.combine_cli.proofs.Verdicts.{one_verdict, planned_verdict, planned_run}
 
 -- a fact is what an error needs

@@ -9,7 +9,7 @@ use Rattle.param_ids.specs.Plain.{PlainId}
 use Rattle.neq_stack.specs.Neqs.{PlainNeq}
 use Rattle.neq_stack.specs.ByName.{Parameter, HasParameter, entry_in, right_in}
 use Rattle.neq_stack.specs.Stacks.{IsStackOf, sum_of_intervals}
-use Rattle.combine_cli.proofs.Below.{sum_append}
+use Rattle.neq_stack.proofs.Laws.{sum_append}
 use Rattle.combine_cli.proofs.EachLaws.{any_cases, any_here, any_later, any_none, any_alike, any_onward, maps_from_each}
 
 abbrev all_of : {X : Type 0} → List (List X) → List X

@@ -16,7 +16,7 @@ use Rattle.combine_cli.specs.Combination.{Texts, IsCombined}
 use Rattle.combine_cli.specs.Verdict.{Outcome, Combines, HasControl, IsVerdict, outputs_with}
 use Rattle.combine_cli.specs.Headline.{AreWritten, IsCertifiedRun}
 use Rattle.combine_cli.specs.Plan.{IsTextsOf, IsPlanned}
-use Rattle.combine_cli.proofs.Below.{words_are_one, control_is_one, inputs_are_one}
+use Rattle.run_inputs.proofs.Alone.{words_are_one, control_is_one, inputs_are_one}
 use Rattle.combine_cli.proofs.OneCombination.{combined_is_one}
 
 -- ---- each step has one result
