@@ -1,11 +1,11 @@
 -- What a command reads is one thing: its words, its control file, and the files of its control.
-use Rattle.std.proofs.Common.{◌≡◌, ◌⊎◌, ◌∷◌, ◌<◌, ◌≤◌, ℕ, List, [], length, Option, Some, None, Result, Ok, Err, codes, refl, sym, ap, subst, ◌∙◌, inl, inr, arith}
+use Rattle.std.proofs.Common.{◌≡◌, ◌∷◌, ℕ, List, [], length, Option, Some, None, Result, Ok, Err, codes, sym, ap, subst, ◌∙◌, inl, inr, arith}
 use Rattle.stated_order.specs.Steps.{IsOne, Then}
 use Rattle.stated_order.proofs.StepLaws.{then_is_one, in_turn_is_one, renamed_is_one}
 use Rattle.desk_io.specs.Content.{File}
 use Rattle.snx_blocks.specs.Documents.{PlainDoc, IsDocument}
 use Rattle.snx_blocks.proofs.Single.{document_is_one}
-use Rattle.control_doc.specs.Control.{IsRead, OneControl, table_in}
+use Rattle.control_doc.specs.Control.{IsRead, table_in}
 use Rattle.control_doc.specs.Plain.{PlainPlan, PlainControl}
 use Rattle.refusal_lines.specs.declared.refusal.Refusal.{Refusal}
 use Rattle.refusal_lines.specs.declared.refusal.Refusal.TheVariants.{Line}
@@ -14,6 +14,7 @@ use Rattle.run_inputs.specs.Files.{ReadsFile, ReadsText, control_limit}
 use Rattle.run_inputs.specs.Controls.{refusal_of_fault, SaysControl, SaysRun, ReadsControl, apart, built}
 use Rattle.run_inputs.specs.Inputs.{PlainInput, IsInputWithin, IsInput, AreInputs, ReadsInputs, limit_after}
 use Rattle.run_inputs.proofs.NameOrder.{one_order}
+use Rattle.run_inputs.proofs.OneControl.{one_control_of}
 
 -- ---- words
 same_solved : (words : List (List ℕ)) (a b : SolvedFiles) → AreSolve words a → AreSolve words b → a ≡ b
@@ -69,15 +70,15 @@ IsApart names control r = r ≡ apart names control
 abbrev IsBuilt : CombinedFiles → PlainControl → Result (Unit {0}) Refusal → Type 0
 IsBuilt names control r = r ≡ built names control
 
-run_is_one : OneControl → (names : CombinedFiles) (text : List ℕ) → IsOne (SaysRun names text)
-run_is_one one names text =
-    then_is_one (SaysControl text) (λ control. Then (IsApart names control) (λ kept_apart. Then (IsBuilt names control) (λ all_built r. r ≡ Ok control))) (renamed_is_one refusal_of_fault (IsRead text) (one (table_in text))) (λ control says.
+run_is_one : (names : CombinedFiles) (text : List ℕ) → IsOne (SaysRun names text)
+run_is_one names text =
+    then_is_one (SaysControl text) (λ control. Then (IsApart names control) (λ kept_apart. Then (IsBuilt names control) (λ all_built r. r ≡ Ok control))) (renamed_is_one refusal_of_fault (IsRead text) (one_control_of (table_in text))) (λ control says.
     then_is_one (IsApart names control) (λ kept_apart. Then (IsBuilt names control) (λ all_built r. r ≡ Ok control)) (λ r s a b. a ∙ sym b) (λ kept_apart kept.
     then_is_one (IsBuilt names control) (λ all_built r. r ≡ Ok control) (λ r s a b. a ∙ sym b) (λ all_built all r s a b. a ∙ sym b)))
 
-pub control_is_one : OneControl → (names : CombinedFiles) (files : List ℕ → Option File) → IsOne (ReadsControl names files)
-control_is_one one names files =
-    then_is_one (ReadsFile control_limit names.control (files names.control)) (SaysRun names) (file_is_one control_limit names.control (files names.control)) (λ text read. run_is_one one names text)
+pub control_is_one : (names : CombinedFiles) (files : List ℕ → Option File) → IsOne (ReadsControl names files)
+control_is_one names files =
+    then_is_one (ReadsFile control_limit names.control (files names.control)) (SaysRun names) (file_is_one control_limit names.control (files names.control)) (λ text read. run_is_one names text)
 
 -- ---- the files of a control
 abbrev Made : PlainPlan → List ℕ → PlainDoc → Result PlainInput Refusal → Type 0

@@ -2,4 +2,5 @@ mod WordTests
 mod Tested
 mod NameOrder
 mod Turns
+mod OneControl
 pub mod Alone

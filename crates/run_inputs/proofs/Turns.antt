@@ -1,17 +1,17 @@
 -- Files that are read one after another.
-use Rattle.std.proofs.Common.{◌≡◌, ◌∷◌, ◌++◌, ◌+◌, ◌-◌, ◌<◌, ◌≤◌, ◌^◌, ℕ, List, [], length, get_or, take, drop, map, Option, Result, Ok, Err, refl, sym, ap, ◌∙◌, subst, arith, append_assoc}
+use Rattle.std.proofs.Common.{◌≡◌, ◌∷◌, ◌++◌, ◌+◌, ◌-◌, ◌<◌, ◌≤◌, ℕ, List, [], length, get_or, take, drop, map, Option, Result, Ok, Err, sym, ap, ◌∙◌, subst, arith, append_assoc}
 use Rattle.std.specs.Prelude.{min, sum}
 use Rattle.std.specs.List.{sum_by}
 use Rattle.std.proofs.lemmas.List.{take_more, map-append, take-append-drop}
 use Rattle.std.proofs.lemmas.List.Sums.{sum-map, sum_by-append}
-use Rattle.stated_order.specs.Steps.{Then, InTurn}
+use Rattle.stated_order.specs.Steps.{Then}
 use Rattle.stated_order.proofs.StepLaws.{then_gives, then_stops, in_turn_more, in_turn_stops}
 use Rattle.desk_io.specs.Content.{File}
 use Rattle.control_doc.specs.Plain.{PlainPlan}
 use Rattle.refusal_lines.specs.declared.refusal.Refusal.{Refusal}
 use Rattle.snx_blocks.specs.Documents.{PlainDoc}
 use Rattle.run_inputs.specs.Files.{ReadsFile, ReadsText, file_limit, total_limit}
-use Rattle.run_inputs.specs.Inputs.{PlainInput, limit_after, IsInputWithin, IsInput, AreInputs}
+use Rattle.run_inputs.specs.Inputs.{PlainInput, IsInputWithin, IsInput, AreInputs}
 
 -- how many bytes files have together
 abbrev pub bytes_of : List PlainInput → ℕ

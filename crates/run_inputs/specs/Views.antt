@@ -1,8 +1,8 @@
 -- What the code holds, without where it lies in memory; and what is known of its answers.
-use Rattle.std.specs.Prelude.{◌≡◌, ◌≢◌, ◌≤◌, ℕ, Bool, true, false, List, [], ◌∷◌, Option, Some, None, Result, Ok, Err}
+use Rattle.std.specs.Prelude.{◌≡◌, ◌≢◌, ◌≤◌, ℕ, Bool, true, false, List, [], Option, None, Result, Ok, Err}
 use Rattle.desk_io.specs.Desk.{Rose}
 use Rattle.snx_blocks.specs.Views.{doc_view}
-use Rattle.control_doc.specs.Plain.{PlainPlan, PlainDatum, PlainReduction, PlainControl}
+use Rattle.control_doc.specs.Plain.{PlainDatum, PlainReduction, PlainControl}
 use Rattle.control_doc.specs.Views.{plan_view}
 use Rattle.refusal_lines.specs.Refusals.{status_of}
 use Rattle.refusal_lines.specs.declared.refusal.Refusal.{Refusal}

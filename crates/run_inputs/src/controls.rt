@@ -41,11 +41,7 @@ fn first_named<'a>(names: &CombineNames<'_>, files: &'a [FilePlan]) -> Option<&'
 }
 
 // Refuses the first listed file that is also the control file or an output.
-fn kept_apart(
-    alloc: Global,
-    names: &CombineNames<'_>,
-    files: &[FilePlan],
-) -> Result<(), Refusal>
+fn kept_apart(alloc: Global, names: &CombineNames<'_>, files: &[FilePlan]) -> Result<(), Refusal>
     ensures kept { IfOk result (λ _. Ok tt ≡ apart_from (find (is_named (combined_files names.now)) (map plan_view files.now))) }
     ensures refused { IfErr result (IfTold (λ refusal. Err refusal ≡ apart_from (find (is_named (combined_files names.now)) (map plan_view files.now)))) }
     ensures no_fault { IfErr result (λ refusal. status_of refusal ≢ 5) }

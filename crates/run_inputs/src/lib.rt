@@ -9,6 +9,6 @@ mod words;
 
 pub use controls::read_control_file;
 pub use files::{named, read_file, read_text};
-pub use laws::one_reading;
 pub use inputs::{Input, read_inputs};
+pub use laws::one_reading;
 pub use words::{CombineNames, Command, SolveNames, read_words};

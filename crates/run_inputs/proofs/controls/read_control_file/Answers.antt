@@ -1,8 +1,5 @@
-use Rattle.std.proofs.Common.{subst, List, ℕ, Ok, Err}
-use Rattle.std.proofs.lemmas.Result.{err_from_is_err_and, IfOk-weaker}
+use Rattle.std.proofs.lemmas.Result.{err_from_is_err_and}
 use Rattle.control_doc.specs.Views.{control_view}
-use Rattle.refusal_lines.specs.declared.refusal.Refusal.{Refusal}
-use Rattle.run_inputs.specs.Controls.{SaysRun, ReadsControl}
 use Rattle.run_inputs.specs.Views.{combined_files}
 use Rattle.run_inputs.proofs.Tested.{file_refused, given_by_text, refused_by_text}
 use Rattle.run_inputs.proofs.controls.read_control_file.Goals as goal

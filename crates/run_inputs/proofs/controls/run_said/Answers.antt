@@ -1,4 +1,3 @@
-use Rattle.std.proofs.Common.{ap}
 use Rattle.std.proofs.lemmas.Result.{err_from_is_err_and}
 use Rattle.control_doc.specs.Views.{control_view}
 use Rattle.run_inputs.specs.Views.{combined_files}

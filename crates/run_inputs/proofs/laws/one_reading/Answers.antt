@@ -5,7 +5,7 @@ pub returns-clause-command : goal.returns-clause-command
 returns-clause-command c = words_are_one
 
 pub returns-clause-control : goal.returns-clause-control
-returns-clause-control c = control_is_one c.one_control.ensures
+returns-clause-control c = control_is_one
 
 pub returns-clause-inputs : goal.returns-clause-inputs
 returns-clause-inputs c = inputs_are_one
