@@ -5,8 +5,10 @@ pub mod Decisions
 pub mod EachLaws
 pub mod GroupLaws
 pub mod OneCombination
+pub mod PartLaws
 pub mod RunLaws
 pub mod SoundParts
+pub mod TurnLaws
 pub mod UngroupLaws
 pub mod Verdicts
 pub mod WorkedLaws
