@@ -1,8 +1,10 @@
+pub mod Agreement
 pub mod AlikeInputs
 pub mod AlikeLaws
 pub mod Below
 pub mod Decisions
 pub mod EachLaws
+pub mod Equal
 pub mod GroupLaws
 pub mod OneCombination
 pub mod PartLaws
