@@ -6,6 +6,7 @@ pub mod Decisions
 pub mod EachLaws
 pub mod Equal
 pub mod GroupLaws
+pub mod KnownLaws
 pub mod OneCombination
 pub mod PartLaws
 pub mod RunLaws
