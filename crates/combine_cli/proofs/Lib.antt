@@ -1,11 +1,16 @@
+pub mod Agreement
 pub mod AlikeInputs
 pub mod AlikeLaws
 pub mod Decisions
 pub mod EachLaws
+pub mod Equal
 pub mod GroupLaws
+pub mod KnownLaws
 pub mod OneCombination
+pub mod PartLaws
 pub mod RunLaws
 pub mod SoundParts
+pub mod TurnLaws
 pub mod UngroupLaws
 pub mod Verdicts
 pub mod WorkedLaws

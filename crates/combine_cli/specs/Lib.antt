@@ -2,6 +2,7 @@ pub mod Alike
 pub mod Causes
 pub mod Combination
 pub mod Headline
+pub mod Known
 pub mod Parts
 pub mod Plan
 pub mod Runs

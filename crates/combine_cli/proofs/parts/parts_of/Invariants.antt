@@ -1,0 +1,13 @@
+use Rattle.std.proofs.Common.{length, map, take}
+use Rattle.std.specs.Prelude.{Ok}
+use Rattle.stated_order.specs.Lists.{AreEach}
+use Rattle.run_inputs.specs.Views.{input_view}
+use Rattle.combine_cli.specs.Combination.{AreParts}
+use Rattle.combine_cli.specs.Parts.{part_view, IsPartOf}
+use Rattle.combine_cli.proofs.parts.parts_of.Given as goal
+
+abbrev pub invariant-loop-input : goal.invariant-loop-input
+invariant-loop-input l = record {
+  so_far : AreParts l.scales (map input_view (take (length l.yielded) l.fn.inputs.items)) (Ok (map part_view l.parts.items));
+  each : AreEach (IsPartOf l.scales) (map input_view (take (length l.yielded) l.fn.inputs.items)) (map part_view l.parts.items);
+}
