@@ -5,7 +5,7 @@ use Rattle.stated_order.specs.Steps.{IsOne}
 use Rattle.desk_io.specs.Content.{File}
 use Rattle.control_doc.specs.Plain.{PlainPlan}
 use Rattle.neq_stack.specs.Neqs.{PlainNeq}
-use Rattle.neq_stack.specs.Stacks.{IsStacked, StacksRegroup, StacksMove, SomeHaveStack, sum_of_intervals}
+use Rattle.neq_stack.specs.Stacks.{IsStacked, StacksRegroup, StacksMove, SomeHaveStack, StackIsAtMost, sum_of_intervals}
 use Rattle.run_inputs.specs.Words.{CombinedFiles, ReadsWords}
 use Rattle.run_inputs.specs.Controls.{ReadsControl}
 use Rattle.run_inputs.specs.Inputs.{ReadsInputs}
@@ -33,3 +33,6 @@ some_have_stack = ?
 
 pub sum_append : (xs ys : List Interval) → sum_of_intervals (xs ++ ys) ≡ interval_add (sum_of_intervals xs) (sum_of_intervals ys)
 sum_append = ?
+
+pub stack_is_at_most : StackIsAtMost
+stack_is_at_most = ?

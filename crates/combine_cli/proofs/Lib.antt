@@ -4,6 +4,8 @@ pub mod Below
 pub mod Decisions
 pub mod EachLaws
 pub mod GroupLaws
+pub mod GroupSorts
+pub mod GroupStacks
 pub mod OneCombination
 pub mod RunLaws
 pub mod SoundParts
