@@ -1,7 +1,7 @@
 -- The stacks of groups: what is known of a group's members, and of the stacks of all groups.
-use Rattle.std.proofs.Common.{◌≡◌, ◌∙◌, ◌++◌, ◌∷◌, ◌⊎◌, ◌<◌, ◌≤◌, ◌*◌, ◌+◌, ◌^◌, ℕ, List, [], length, get_or, take, drop, map, Result, Ok, Err, refl, ap, sym, subst, inl, inr, arith, append_assoc, length-append, lit<}
+use Rattle.std.proofs.Common.{◌≡◌, ◌∙◌, ◌++◌, ◌∷◌, ◌<◌, ◌≤◌, ◌*◌, ◌+◌, ◌^◌, ℕ, List, [], length, get_or, take, drop, map, Result, Ok, Err, ap, sym, subst, arith, append_assoc, length-append, lit<}
 use Rattle.std.specs.Prelude.{All, Contains}
-use Rattle.std.specs.List.{Any, filter}
+use Rattle.std.specs.List.{filter}
 use Rattle.std.proofs.Math.Nat.{mul-le-mul_right}
 use Rattle.std.proofs.Math.ListN.{get_or-map}
 use Rattle.std.proofs.lemmas.List.{length-map, map-append, take_more, take-append-drop}
@@ -11,7 +11,7 @@ use Rattle.stated_order.specs.Steps.{InTurn}
 use Rattle.stated_order.proofs.StepLaws.{in_turn_more, in_turn_stops, then_gives}
 use Rattle.param_ids.specs.Plain.{PlainId}
 use Rattle.neq_stack.specs.Neqs.{PlainNeq, IsSound}
-use Rattle.neq_stack.specs.ByName.{Parameter, HasParameter, Agree, AllAgree, AreAtMost}
+use Rattle.neq_stack.specs.ByName.{Parameter, HasParameter, AllAgree, AreAtMost}
 use Rattle.neq_stack.specs.Stacks.{IsStackOf}
 use Rattle.refusal_lines.specs.declared.refusal.Refusal.{Refusal}
 use Rattle.combine_cli.specs.Combination.{Part, Group, AreGroups, is_in_group, members, IsGroupStack, AreGroupStacks, IsWholeStack, StacksParts}

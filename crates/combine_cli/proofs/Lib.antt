@@ -7,6 +7,7 @@ pub mod GroupLaws
 pub mod GroupSorts
 pub mod GroupStacks
 pub mod OneCombination
+pub mod ReportLaws
 pub mod RunLaws
 pub mod SoundParts
 pub mod UngroupLaws
