@@ -1,6 +1,8 @@
 pub mod AlikeInputs
 pub mod AlikeLaws
 pub mod Below
+pub mod BelowCore
+pub mod CombinedLaws
 pub mod Decisions
 pub mod EachLaws
 pub mod GroupLaws
