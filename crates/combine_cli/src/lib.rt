@@ -4,6 +4,7 @@
 mod agreeing;
 mod combining;
 mod decide;
+mod groups;
 mod laws;
 mod parts;
 mod reporting;

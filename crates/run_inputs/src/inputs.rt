@@ -96,6 +96,7 @@ fn read_in_turn<'a, R: Threads + Sync, D: Desk>(
     desk: &mut D,
 ) -> Result<Vec<Input<'a>>, Refusal>
     ensures inputs { IsTrue D.tells → IfOk result (λ inputs. AreInputs (D.content desk.old).files (map (λ plan. plan_view plan.now) plans.now) (Ok (map input_view inputs.items))) }
+    ensures count { IfOk result (λ inputs. length inputs.items ≡ length plans.now) }
     ensures valid { IfOk result (λ inputs. All (λ input. IsValid (doc_view input.doc)) inputs.items) }
     ensures refused { IsTrue D.tells → IfErr result (IfTold (λ refusal. AreInputs (D.content desk.old).files (map (λ plan. plan_view plan.now) plans.now) (Err refusal))) }
     ensures keeps { IsTrue D.tells → KeepsAll (D.content desk.old) (D.content desk.new) }
@@ -128,6 +129,7 @@ pub fn read_inputs<'a, R: Threads + Sync, D: Desk>(
 ) -> Result<Vec<Input<'a>>, Refusal>
     requires { IsValidControl (control_view control.now) }
     ensures inputs { IsTrue D.tells → IfOk result (λ inputs. ReadsInputs (control_view control.now).files (D.content desk.old).files (Ok (map input_view inputs.items))) }
+    ensures count { IfOk result (λ inputs. length inputs.items ≡ length control.now.files.items) }
     ensures valid { IfOk result (λ inputs. All (λ input. IsValid (doc_view input.doc)) inputs.items) }
     ensures refused { IsTrue D.tells → IfErr result (IfTold (λ refusal. ReadsInputs (control_view control.now).files (D.content desk.old).files (Err refusal))) }
     ensures keeps { IsTrue D.tells → KeepsAll (D.content desk.old) (D.content desk.new) }

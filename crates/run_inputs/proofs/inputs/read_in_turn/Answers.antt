@@ -30,6 +30,7 @@ loop-plan-preserved g c =
     let short : c.in_ok-input.input.size ≤ c.loop-plan.left = omega (arith, c.in_ok-input.ensures.short, c.limit_of.ensures.value) in
     record {
       left = subst (λ (l : List PlainInput). (c.loop-plan.left - c.in_ok-input.input.size) + bytes_of l ≡ total_limit) (sym added) (left_after c.loop-plan.left before input short i.left);
+      count = search rules;
       valid = rw c.in-Ok.ensures.items (All-push (λ (input : Input). IsValid (doc_view input.doc)) c.loop-plan.inputs.items c.in_ok-input.input i.valid c.in_ok-input.ensures.valid);
       keeps = search rules;
       faults = search rules;

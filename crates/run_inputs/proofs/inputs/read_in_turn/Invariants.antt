@@ -1,4 +1,4 @@
-use Rattle.std.proofs.Common.{◌≡◌, ◌+◌, map, take, IsTrue}
+use Rattle.std.proofs.Common.{◌≡◌, ◌+◌, length, map, take, IsTrue}
 use Rattle.std.specs.Prelude.{Ok, All}
 use Rattle.desk_io.specs.Content.{KeepsAll}
 use Rattle.snx_blocks.specs.Documents.{IsValid}
@@ -13,6 +13,7 @@ use Rattle.run_inputs.proofs.inputs.read_in_turn.Given as goal
 abbrev pub invariant-loop-plan : goal.invariant-loop-plan
 invariant-loop-plan g l = record {
   left : l.left + bytes_of (map input_view l.inputs.items) ≡ total_limit;
+  count : length l.inputs.items ≡ l.plan-index;
   valid : All (λ input. IsValid (doc_view input.doc)) l.inputs.items;
   keeps : IsTrue g.D.Desk.tells → KeepsAll (g.D.Desk.content l.fn.desk) (g.D.Desk.content l.desk);
   faults : g.D.Desk.faults l.desk ≡ g.D.Desk.faults l.fn.desk;
