@@ -1,5 +1,5 @@
 -- The a priori rows of files that are read one after another, by their names.
-use Rattle.std.proofs.Common.{◌≡◌, ◌≢◌, ◌∷◌, ◌++◌, ◌⊎◌, ◌+◌, ◌<◌, ◌∙◌, inl, inr, ℕ, Bool, true, false, cond, List, [], length, get_or, take, slice_get, map, Some, None, Result, Ok, Err, OnOk, refl, sym, ap, subst, arith, append_assoc}
+use Rattle.std.proofs.Common.{◌≡◌, ◌≢◌, ◌∷◌, ◌++◌, ◌⊎◌, ◌+◌, ◌<◌, ◌∙◌, inl, inr, ℕ, Bool, true, false, cond, List, [], length, get_or, take, slice_get, map, Some, Result, Ok, Err, OnOk, refl, sym, ap, subst, arith, append_assoc}
 use Rattle.std.specs.Prelude.{Contains}
 use Rattle.std.specs.List.{Any, flat_map}
 use Rattle.std.specs.BTreeMap.{BTreeMap, get, Updates}
@@ -79,9 +79,6 @@ pub clash_of_file : (before : List PlainInput) (input : PlainInput) → ClashesW
 clash_of_file before input any = (any.0, any.1, any.2, any.3, from_some_file (Clash any.1) before any.4)
 
 -- ---- what is known
-pub knows_none : (known : BTreeMap PlainId Row) → ((id : PlainId) → get id_cmp known id ≡ None) → Knows known []
-knows_none known none = record { each = λ row there. absurd (omega (arith, there.1)); one = λ id row has. let e = sym (none id) ∙ has in absurd (cc) }
-
 -- a row that contradicts nothing that is known has the value and the unit of the known row of its name
 agrees_with : (known : BTreeMap PlainId Row) (row other : Row) → ¬ (Contradicts known row) → get id_cmp known row.id ≡ Some other → (row.value ≡ other.value) × (row.unit ≡ other.unit)
 agrees_with known row other fits has =
