@@ -77,7 +77,7 @@ module _ (files : List ℕ → Option File) where
       let read : PlainInput = record { plan = other; size = length f.gives; doc = g.gives } in (
         read,
         then_gives (ReadsFile (limit_after others) other.name (files other.name)) _ f.gives (Ok read) (file_kept before others one other f.gives each same f.given)
-        (then_gives (ReadsText other.name f.gives) _ g.gives (Ok read) g.given refl),
+            (then_gives (ReadsText other.name f.gives) _ g.gives (Ok read) g.given refl),
         subst (λ (i : PlainInput). SameInput i read) (sym is) (record { plan = same; size = refl; doc = refl }),
       )
 

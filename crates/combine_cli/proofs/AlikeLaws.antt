@@ -25,10 +25,11 @@ use Rattle.run_inputs.specs.Controls.{is_named, apart_from, apart, built_of, bui
 use Rattle.run_inputs.specs.Inputs.{PlainInput, ReadsInputs}
 use Rattle.combine_cli.specs.Alike.{ungrouped, AreAlike, AlikeAreAdmitted, AlikeCombine}
 use Rattle.combine_cli.specs.Combination.{apriori_rows, Clash, ClashesWith, IsAgreed, AreAgreed, RecoversBy, Recovers, Part, IsPart, AreParts, Group, AreGroups, is_in_group, members, IsGroupStack, AreGroupStacks, IsWholeStack, StacksParts, Reports, Texts, IsCombined}
+use Rattle.combine_cli.specs.Parts.{neqs_of}
 use Rattle.combine_cli.specs.Verdict.{Combines}
 use Rattle.neq_stack.proofs.Laws.{stacks_regroup, stacks_move, some_have_stack}
 use Rattle.combine_cli.proofs.EachLaws.{maps_from_each, any_alike, went_on, in_turn_alike}
-use Rattle.combine_cli.proofs.GroupLaws.{plans_in, neqs_in, all_members, groups_part, groups_exist}
+use Rattle.combine_cli.proofs.GroupLaws.{plans_in, all_members, members_among, groups_part, groups_exist}
 use Rattle.combine_cli.proofs.SoundParts.{parts_made, parts_sound}
 use Rattle.combine_cli.proofs.RunLaws.{not_found}
 use Rattle.combine_cli.proofs.UngroupLaws.{stacks_ungroup}
@@ -39,14 +40,13 @@ clash_kept : (before others : List PlainInput) (one other : PlainInput) → AreE
 clash_kept before others one other each same clash =
     let in_rows = λ (row : Row) (doc : PlainDoc). Any (Clash row) (apriori_rows doc.apriori) in
     let in_files = λ (doc : PlainDoc) (inputs : List PlainInput). Any (λ (row : Row). Any (λ (earlier : PlainInput). in_rows row earlier.doc) inputs) (apriori_rows doc.apriori) in
-    let here : in_files one.doc others = subst (λ doc. in_files doc others) (sym same.doc) clash in
-    (
+    let here : in_files one.doc others = subst (λ doc. in_files doc others) (sym same.doc) clash in (
       here.0,
       here.1,
       here.2,
       here.3,
       any_alike SameInput (λ (earlier : PlainInput). in_rows here.1 earlier.doc) (λ (earlier : PlainInput). in_rows here.1 earlier.doc)
-      (λ x y r q. subst (λ doc. in_rows here.1 doc) (sym r.doc) q) before others each here.4,
+          (λ x y r q. subst (λ doc. in_rows here.1 doc) (sym r.doc) q) before others each here.4,
     )
 
 agreed_kept : (before others : List PlainInput) (one other given : PlainInput) → AreEach SameInput before others → SameInput one other → IsAgreed before one (Ok given)
@@ -74,8 +74,8 @@ module _ (scales : ScaleMap) where
       let form : one.plan.form ≡ other.plan.form = ap (λ (plan : PlainPlan). plan.form) same.plan in
       let weight : one.plan.weight ≡ other.plan.weight = ap (λ (plan : PlainPlan). plan.weight) same.plan in
       let given : Recovers other.plan scales other.doc (Ok f.gives) =
-          subst (λ (doc : PlainDoc). Recovers other.plan scales doc (Ok f.gives)) same.doc
-          (subst (λ (form : Form). RecoversBy form other.plan scales one.doc (Ok f.gives)) form (recovers_kept one.plan.form one.plan other.plan scales one.doc f.gives weight f.given)) in (
+      subst (λ (doc : PlainDoc). Recovers other.plan scales doc (Ok f.gives)) same.doc
+      (subst (λ (form : Form). RecoversBy form other.plan scales one.doc (Ok f.gives)) form (recovers_kept one.plan.form one.plan other.plan scales one.doc f.gives weight f.given)) in (
         kept,
         then_gives (Recovers other.plan scales other.doc) _ f.gives (Ok kept) given refl,
         subst (λ (p : Part). SamePart p kept) (sym is) (record { plan = same.plan; neq = refl }),
@@ -100,29 +100,19 @@ each_group_stacks parts before (group ∷ groups) (stack ∷ rest) each =
     (subst (λ (all : List PlainNeq). InTurn (IsGroupStack parts) (before ++ stack ∷ []) groups (Ok all)) (append_assoc before (stack ∷ []) rest) (each_group_stacks parts (before ++ stack ∷ []) groups rest each.1))
 
 -- the whole stack is the stack of all parts
-pub whole_is_of_parts : (parts : List Part) (neq : PlainNeq) → StacksParts parts (Ok neq) → IsStackOf (neqs_in parts) neq
+pub whole_is_of_parts : (parts : List Part) (neq : PlainNeq) → StacksParts parts (Ok neq) → IsStackOf (neqs_of parts) neq
 whole_is_of_parts parts neq h =
     let f = went_on (AreGroupStacks parts h.0) IsWholeStack neq h.2 in
     let each = group_stacks_each parts [] h.0 f.gives f.given in
     let all : IsStackOf (all_members parts h.0) neq = stacks_regroup (map (members parts) h.0) f.gives neq (subst (λ (stacks : List PlainNeq). AreEach IsStackOf (map (members parts) h.0) stacks) (sym each.1) each.2) f.onward in
-    stacks_move (all_members parts h.0) (neqs_in parts) neq (IsPermutation-sym (neqs_in parts) (all_members parts h.0) (groups_part parts h.0 h.1)) all
+    stacks_move (all_members parts h.0) (neqs_of parts) neq (IsPermutation-sym (neqs_of parts) (all_members parts h.0) (groups_part parts h.0 h.1)) all
 
 -- a list of parts, put into groups, has the stack that it has as a whole
-contains_neq : (parts : List Part) (part : Part) → Contains parts part → Contains (neqs_in parts) part.neq
-contains_neq parts part there =
-    (there.0, rw (length-map parts (λ (p : Part). p.neq)) there.1, get_or-map (λ (p : Part). p.neq) parts there.0 part ∙ ap (λ (p : Part). p.neq) there.2)
-
-members_among : (parts : List Part) (group : Group) → All (Contains (neqs_in parts)) (members parts group)
-members_among parts group =
-    All-map (Contains (neqs_in parts)) (λ (part : Part). part.neq) (filter (is_in_group group) parts)
-    (All-filter (is_in_group group) (λ (part : Part). Contains (neqs_in parts) part.neq) parts
-    (All-weaker (Contains parts) (λ (part : Part). Contains (neqs_in parts) part.neq) (contains_neq parts) parts (All-contains_itself parts)))
-
-module _ (parts : List Part) (neq : PlainNeq) (sound : All IsSound (neqs_in parts)) (stack : IsStackOf (neqs_in parts) neq) where
+module _ (parts : List Part) (neq : PlainNeq) (sound : All IsSound (neqs_of parts)) (stack : IsStackOf (neqs_of parts) neq) where
   groups_stacked : (groups : List Group) → (stacks : List PlainNeq) × AreEach IsStackOf (map (members parts) groups) stacks
   groups_stacked [] = ([], tt)
   groups_stacked (group ∷ groups) =
-      let first = some_have_stack (neqs_in parts) (members parts group) neq sound stack (members_among parts group) in
+      let first = some_have_stack (neqs_of parts) (members parts group) neq sound stack (members_among parts group) in
       let rest = groups_stacked groups in
       (first.0 ∷ rest.0, (first.1, rest.1))
 
@@ -130,7 +120,7 @@ module _ (parts : List Part) (neq : PlainNeq) (sound : All IsSound (neqs_in part
   parts_stacked =
       let found = groups_exist (plans_in parts) in
       let stacks = groups_stacked found.0 in
-      let all : IsStackOf (all_members parts found.0) neq = stacks_move (neqs_in parts) (all_members parts found.0) neq (groups_part parts found.0 found.1) stack in
+      let all : IsStackOf (all_members parts found.0) neq = stacks_move (neqs_of parts) (all_members parts found.0) neq (groups_part parts found.0 found.1) stack in
       let whole : IsStackOf stacks.0 neq = stacks_ungroup (map (members parts) found.0) stacks.0 neq stacks.1 all in
       (found.0, found.1, then_gives (AreGroupStacks parts found.0) IsWholeStack stacks.0 (Ok neq) (each_group_stacks parts [] found.0 stacks.0 stacks.1) whole)
 
@@ -142,9 +132,9 @@ combined_kept scales inputs others texts each h =
     let c = went_on (StacksParts b.gives) _ texts b.onward in
     let agreed = in_turn_alike IsAgreed IsAgreed SameInput SameInput agreed_kept [] [] inputs others a.gives tt each a.given in
     let parts = in_turn_alike (IsPart scales) (IsPart scales) SameInput SamePart (part_kept scales) [] [] a.gives agreed.0 b.gives tt agreed.2 b.given in
-    let same : neqs_in b.gives ≡ neqs_in parts.0 = maps_from_each SamePart (λ (p : Part). p.neq) (λ (p : Part). p.neq) (λ one other r. r.neq) b.gives parts.0 parts.2 in
-    let stack : IsStackOf (neqs_in parts.0) c.gives = subst (λ (neqs : List PlainNeq). IsStackOf neqs c.gives) same (whole_is_of_parts b.gives c.gives c.given) in
-    let sound = parts_sound (neqs_in parts.0) c.gives (parts_made scales agreed.0 parts.0 parts.1) stack in
+    let same : neqs_of b.gives ≡ neqs_of parts.0 = maps_from_each SamePart (λ (p : Part). p.neq) (λ (p : Part). p.neq) (λ one other r. r.neq) b.gives parts.0 parts.2 in
+    let stack : IsStackOf (neqs_of parts.0) c.gives = subst (λ (neqs : List PlainNeq). IsStackOf neqs c.gives) same (whole_is_of_parts b.gives c.gives c.given) in
+    let sound = parts_sound (neqs_of parts.0) c.gives (parts_made scales agreed.0 parts.0 parts.1) stack in
     then_gives (AreAgreed others) _ agreed.0 (Ok texts) agreed.1
     (then_gives (AreParts scales agreed.0) _ parts.0 (Ok texts) parts.1 (then_gives (StacksParts parts.0) _ c.gives (Ok texts) (parts_stacked parts.0 c.gives sound stack) c.onward))
 
@@ -182,7 +172,7 @@ apart_kept names one other alike kept =
     let Unnamed = λ (plan : PlainPlan). is_named names plan ≡ false in
     let all = over_ungrouped Unnamed (λ plan e. e) one.files (unnamed (is_named names) one.files none) in
     let moved = recursion_from_All Unnamed (map ungrouped other.files)
-        (All-permutation Unnamed (map ungrouped one.files) (map ungrouped other.files) alike.files (All-from_recursion Unnamed (map ungrouped one.files) all)) in
+    (All-permutation Unnamed (map ungrouped one.files) (map ungrouped other.files) alike.files (All-from_recursion Unnamed (map ungrouped one.files) all)) in
     ap apart_from (none_named (is_named names) other.files (from_ungrouped Unnamed (λ plan e. e) other.files moved))
 
 built_kept : (names : CombinedFiles) (one other : PlainControl) → AreAlike one other → built names one ≡ Ok tt → built names other ≡ Ok tt

@@ -1,6 +1,7 @@
 -- The groups of some files part them: each file is in one group.
 use Rattle.std.proofs.Common.{◌≡◌, ◌≢◌, ◌∙◌, ◌++◌, ◌∷◌, ◌⊎◌, ◌&&◌, ◌==◌, ◌<◌, ℕ, zero, suc, List, [], length, get_or, map, Bool, true, false, not, cond, refl, ap, sym, subst, inl, inr, arith}
-use Rattle.std.proofs.lemmas.List.{map-append}
+use Rattle.std.proofs.Math.ListN.{get_or-map}
+use Rattle.std.proofs.lemmas.List.{length-map, map-append}
 use Rattle.std.specs.Prelude.{Contains, All, ◌↔◌}
 use Rattle.std.specs.List.{Any, filter, flat_map, AllByRecursion}
 use Rattle.std.specs.List.Sorted.{IsPermutation, IsStrictlySortedBy}
@@ -10,11 +11,12 @@ use Rattle.std.specs.declared.cmp.Ordering.TheVariants.{Less, Equal, Greater}
 use Rattle.std.proofs.lemmas.Slice.Eq.{bytes_eq-Decides}
 use Rattle.std.proofs.lemmas.Cmp.{tied_itself}
 use Rattle.std.specs.Ordering.{ordering_reverse}
-use Rattle.std.proofs.lemmas.List.Elements.{All-from_recursion, recursion_from_All, All-contains, All-contains_itself, All-weaker}
+use Rattle.std.proofs.lemmas.List.Elements.{All-from_recursion, recursion_from_All, All-map, All-filter, All-contains, All-contains_itself, All-weaker}
 use Rattle.std.proofs.lemmas.List.Sorted.{IsPermutation-refl, IsPermutation-trans, IsPermutation-sym, IsPermutation-map, IsPermutation-append_right, IsPermutation-filter_both}
 use Rattle.control_doc.specs.Plain.{PlainPlan}
 use Rattle.neq_stack.specs.Neqs.{PlainNeq}
 use Rattle.combine_cli.specs.Combination.{Part, Group, group_of, place_of, group_cmp, AreGroups, is_in_group, members}
+use Rattle.combine_cli.specs.Parts.{neqs_of}
 use Rattle.combine_cli.proofs.EachLaws.{any_cases, any_here, any_later, any_none, any_map}
 use Rattle.combine_cli.proofs.OneCombination.{group_total, group_exact}
 
@@ -116,13 +118,21 @@ parted (group ∷ groups) parts rising all =
 abbrev pub plans_in : List Part → List PlainPlan
 plans_in parts = map (λ (part : Part). part.plan) parts
 
-abbrev pub neqs_in : List Part → List PlainNeq
-neqs_in parts = map (λ (part : Part). part.neq) parts
+-- a list of parts holds the members of a group
+contains_neq : (parts : List Part) (part : Part) → Contains parts part → Contains (neqs_of parts) part.neq
+contains_neq parts part there =
+    (there.0, rw (length-map parts (λ (p : Part). p.neq)) there.1, get_or-map (λ (p : Part). p.neq) parts there.0 part ∙ ap (λ (p : Part). p.neq) there.2)
+
+pub members_among : (parts : List Part) (group : Group) → All (Contains (neqs_of parts)) (members parts group)
+members_among parts group =
+    All-map (Contains (neqs_of parts)) (λ (part : Part). part.neq) (filter (is_in_group group) parts)
+    (All-filter (is_in_group group) (λ (part : Part). Contains (neqs_of parts) part.neq) parts
+    (All-weaker (Contains parts) (λ (part : Part). Contains (neqs_of parts) part.neq) (contains_neq parts) parts (All-contains_itself parts)))
 
 abbrev pub all_members : List Part → List Group → List PlainNeq
 all_members parts groups = flat_map (λ (group : List PlainNeq). group) (map (members parts) groups)
 
-members_of_groups : (parts : List Part) (groups : List Group) → neqs_in (of_groups parts groups) ≡ all_members parts groups
+members_of_groups : (parts : List Part) (groups : List Group) → neqs_of (of_groups parts groups) ≡ all_members parts groups
 members_of_groups parts [] = refl
 members_of_groups parts (group ∷ groups) =
     map-append (λ (part : Part). part.neq) (filter (is_in_group group) parts) (of_groups parts groups) ∙ ap (λ l. members parts group ++ l) (members_of_groups parts groups)
@@ -134,9 +144,9 @@ all_grouped parts groups are =
     let has = (are.same (group_of part.plan)).1 plan in
     (has.0, group_of part.plan, has.1, has.2, refl)) parts (All-contains_itself parts)
 
-pub groups_part : (parts : List Part) (groups : List Group) → AreGroups (plans_in parts) groups → IsPermutation (neqs_in parts) (all_members parts groups)
+pub groups_part : (parts : List Part) (groups : List Group) → AreGroups (plans_in parts) groups → IsPermutation (neqs_of parts) (all_members parts groups)
 groups_part parts groups are =
-    subst (IsPermutation (neqs_in parts)) (members_of_groups parts groups)
+    subst (IsPermutation (neqs_of parts)) (members_of_groups parts groups)
     (IsPermutation-map (λ (part : Part). part.neq) parts (of_groups parts groups) (parted groups parts are.rising (recursion_from_All (InSome groups) parts (all_grouped parts groups are))))
 
 -- ---- some files have groups
@@ -172,19 +182,19 @@ also_same group first groups same other = (
 also_later : (group first : Group) (groups more : List Group) → HasAlso group groups more → HasAlso group (first ∷ groups) (first ∷ more)
 also_later group first groups more has other = (
   λ there.
-    elim (contains_cases first more other there) [
-      | inl e ↦ inr (contains_here first groups other e)
-      | inr later ↦ elim ((has other).0 later) [ inl same ↦ inl same | inr old ↦ inr (contains_later first groups other old) ]
-    ],
+      elim (contains_cases first more other there) [
+        | inl e ↦ inr (contains_here first groups other e)
+        | inr later ↦ elim ((has other).0 later) [ inl same ↦ inl same | inr old ↦ inr (contains_later first groups other old) ]
+      ],
   λ either.
-    elim either [
-      | inl same ↦ contains_later first more other ((has other).1 (inl same))
-      | inr there ↦
-          elim (contains_cases first groups other there) [
-            | inl e ↦ contains_here first more other e
-            | inr old ↦ contains_later first more other ((has other).1 (inr old))
-          ]
-    ],
+      elim either [
+        | inl same ↦ contains_later first more other ((has other).1 (inl same))
+        | inr there ↦
+            elim (contains_cases first groups other there) [
+              | inl e ↦ contains_here first more other e
+              | inr old ↦ contains_later first more other ((has other).1 (inr old))
+            ]
+      ],
 )
 
 abbrev StandsBelow : Group → Group → Type 0
@@ -246,15 +256,15 @@ groups_exist (plan ∷ plans) =
         rising = more.1;
         same = λ group. (
           λ there.
-            elim ((more.2 group).0 there) [
-              | inl same ↦ any_here (λ plan. group_of plan ≡ group) plan plans same
-              | inr old ↦ any_later (λ plan. group_of plan ≡ group) plan plans ((rest.1.same group).0 old)
-            ],
+              elim ((more.2 group).0 there) [
+                | inl same ↦ any_here (λ plan. group_of plan ≡ group) plan plans same
+                | inr old ↦ any_later (λ plan. group_of plan ≡ group) plan plans ((rest.1.same group).0 old)
+              ],
           λ some.
-            elim (any_cases (λ plan. group_of plan ≡ group) plan plans some) [
-              | inl same ↦ (more.2 group).1 (inl same)
-              | inr old ↦ (more.2 group).1 (inr ((rest.1.same group).1 old))
-            ],
+              elim (any_cases (λ plan. group_of plan ≡ group) plan plans some) [
+                | inl same ↦ (more.2 group).1 (inl same)
+                | inr old ↦ (more.2 group).1 (inr ((rest.1.same group).1 old))
+              ],
         );
       },
     )

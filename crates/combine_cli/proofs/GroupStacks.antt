@@ -18,28 +18,19 @@ use Rattle.combine_cli.specs.Combination.{Part, Group, AreGroups, is_in_group, m
 use Rattle.combine_cli.specs.Parts.{neqs_of}
 use Rattle.neq_stack.proofs.Laws.{stack_is_at_most}
 use Rattle.combine_cli.proofs.EachLaws.{went_on}
+use Rattle.combine_cli.proofs.GroupLaws.{members_among}
 
 -- ---- the members of a group are parts
-is_part : (parts : List Part) (part : Part) → Contains parts part → Contains (neqs_of parts) part.neq
-is_part parts part there =
-    (there.0, rw (length-map parts (λ (p : Part). p.neq)) there.1, get_or-map (λ (p : Part). p.neq) parts there.0 part ∙ ap (λ (p : Part). p.neq) there.2)
-
 module _ (parts : List Part) (group : Group) where
-  among : All (Contains (neqs_of parts)) (members parts group)
-  among =
-      All-map (Contains (neqs_of parts)) (λ (part : Part). part.neq) (filter (is_in_group group) parts)
-      (All-filter (is_in_group group) (λ (part : Part). Contains (neqs_of parts) part.neq) parts
-      (All-weaker (Contains parts) (λ (part : Part). Contains (neqs_of parts) part.neq) (is_part parts) parts (All-contains_itself parts)))
-
   -- so what holds of all parts holds of them
   pub members_all : (P : PlainNeq → Type 0) → All P (neqs_of parts) → All P (members parts group)
-  members_all P all = All-weaker (Contains (neqs_of parts)) P (λ neq there. All-contains P (neqs_of parts) neq all there) (members parts group) among
+  members_all P all = All-weaker (Contains (neqs_of parts)) P (λ neq there. All-contains P (neqs_of parts) neq all there) (members parts group) (members_among parts group)
 
   pub members_agree : AllAgree (neqs_of parts) → AllAgree (members parts group)
   members_agree agree = λ one other a b. agree one other (within one a) (within other b)
     where
       within : (neq : PlainNeq) → Contains (members parts group) neq → Contains (neqs_of parts) neq
-      within neq there = All-contains (Contains (neqs_of parts)) (members parts group) neq among there
+      within neq there = All-contains (Contains (neqs_of parts)) (members parts group) neq (members_among parts group) there
 
   pub members_few : length (members parts group) ≤ length parts
   members_few =
@@ -93,7 +84,7 @@ module _ (parts : List Part) (groups : List Group) (stacks : List PlainNeq) (h :
   has_part stack id parameter there has =
       let is = All-contains (IsOfGroup parts) stacks stack are_of_groups there in
       let some = (is.1.parameters id parameter).0 has in
-      (some.1, All-contains (Contains (neqs_of parts)) (members parts is.0) some.1 (among parts is.0) (some.0, some.2, some.3), some.4)
+      (some.1, All-contains (Contains (neqs_of parts)) (members parts is.0) some.1 (members_among parts is.0) (some.0, some.2, some.3), some.4)
 
   pub stacks_agree : AllAgree (neqs_of parts) → AllAgree stacks
   stacks_agree agree one other there too id p q has also =

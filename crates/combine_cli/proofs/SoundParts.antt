@@ -22,7 +22,7 @@ use Rattle.recover_neq.specs.Recovery.{IsNeqOf, IsRecovered}
 use Rattle.run_inputs.specs.Inputs.{PlainInput}
 use Rattle.combine_cli.specs.Combination.{RecoversBy, Recovers, Part, IsPart, AreParts}
 use Rattle.combine_cli.proofs.EachLaws.{went_on}
-use Rattle.combine_cli.proofs.GroupLaws.{neqs_in}
+use Rattle.combine_cli.specs.Parts.{neqs_of}
 
 -- ---- recovered normal equations
 pub record IsMade (neq : PlainNeq) : Type 0 where
@@ -58,11 +58,11 @@ made_from scales before (input ∷ inputs) parts made h =
     let f = went_on (IsPart scales before input) (λ part. InTurn (IsPart scales) (before ++ part ∷ []) inputs) parts h in
     made_from scales (before ++ f.gives ∷ []) inputs parts (All-push PartMade before f.gives made (part_made scales before input f.gives f.given)) f.onward
 
-pub neqs_made : (parts : List Part) → All PartMade parts → All IsMade (neqs_in parts)
+pub neqs_made : (parts : List Part) → All PartMade parts → All IsMade (neqs_of parts)
 neqs_made [] made = All-nil IsMade
-neqs_made (part ∷ parts) made = All-cons IsMade part.neq (neqs_in parts) (All-head PartMade part parts made) (neqs_made parts (All-tail PartMade part parts made))
+neqs_made (part ∷ parts) made = All-cons IsMade part.neq (neqs_of parts) (All-head PartMade part parts made) (neqs_made parts (All-tail PartMade part parts made))
 
-pub parts_made : (scales : ScaleMap) (inputs : List PlainInput) (parts : List Part) → AreParts scales inputs (Ok parts) → All IsMade (neqs_in parts)
+pub parts_made : (scales : ScaleMap) (inputs : List PlainInput) (parts : List Part) → AreParts scales inputs (Ok parts) → All IsMade (neqs_of parts)
 parts_made scales inputs parts h = neqs_made parts (made_from scales [] inputs parts (All-nil PartMade) h)
 
 -- ---- parts of a sound stack

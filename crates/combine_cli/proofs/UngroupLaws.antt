@@ -74,12 +74,12 @@ module _ (groups : List (List PlainNeq)) (stacks : List PlainNeq) (neq : PlainNe
     names = record {
       rising = whole.names.rising;
       same = λ id.
-        let both = some_stack (λ part. Contains part.names id) (λ parts stack is. is.names.same id) in
-        (λ h. both.0 ((whole.names.same id).0 h), λ h. (whole.names.same id).1 (both.1 h));
+          let both = some_stack (λ part. Contains part.names id) (λ parts stack is. is.names.same id) in
+          (λ h. both.0 ((whole.names.same id).0 h), λ h. (whole.names.same id).1 (both.1 h));
     };
     parameters = λ id parameter.
-      let both = some_stack (λ part. HasParameter part id parameter) (λ parts stack is. is.parameters id parameter) in
-      (λ h. both.0 ((whole.parameters id parameter).0 h), λ h. (whole.parameters id parameter).1 (both.1 h));
+        let both = some_stack (λ part. HasParameter part id parameter) (λ parts stack is. is.parameters id parameter) in
+        (λ h. both.0 ((whole.parameters id parameter).0 h), λ h. (whole.parameters id parameter).1 (both.1 h));
     entries = λ one other. whole.entries one other ∙ sums (λ part. entry_in part one other) (λ parts stack is. is.entries one other);
     rights = λ id. whole.rights id ∙ sums (λ part. right_in part id) (λ parts stack is. is.rights id);
   }

@@ -17,7 +17,11 @@ use std::alloc::{AllocError, Global};
 use std::thread::Threads;
 
 // The control of a command.
-fn control_of<D: Desk>(alloc: Global, command: Command<'_>, desk: &mut D) -> Result<Control, Refusal>
+fn control_of<D: Desk>(
+    alloc: Global,
+    command: Command<'_>,
+    desk: &mut D,
+) -> Result<Control, Refusal>
     ensures control { IsTrue D.tells → IfOk result (λ control. HasControl (command_view command.entry) (D.content desk.old).files (Ok (control_view control))) }
     ensures valid { IfOk result (λ control. IsValidControl (control_view control)) }
     ensures refused { IsTrue D.tells → IfErr result (IfTold (λ refusal. HasControl (command_view command.entry) (D.content desk.old).files (Err refusal))) }
