@@ -287,7 +287,7 @@ fn refuses<R: Threads + Sync + Abort + AllocGlobal>(
 }
 
 #[test]
-fn words_are_refused(rt: HostRuntime) -> Result<(), Fail> {
+fn lines_are_refused(rt: HostRuntime) -> Result<(), Fail> {
     let control = control_of(rt.alloc(), &["b", "c"], &["", ""])?;
     for (line, status, said) in [
         ("solve in in", 2, "snxcomb: words\n"),
