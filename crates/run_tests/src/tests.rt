@@ -45,12 +45,22 @@ CERT g=30 B=1340 M=1 N=2
 END
 ";
 
-// The report of three files of one parameter.
-const COMBINATION: &str = "SNXCOMB BOUNDS 1
-CERT g=40 B=1 M=0 N=1
-     1 STAX   ABCD  A    1 24:001:00000 m    1.3750000000000000 1.3750000000000000 0E-29
-END
-";
+// Bounds and residuals of combinations of one parameter x, whose a priori value is 1. tools/combine.py computes them, apart from
+// this program: of 8 (x - 1) = 3, of 7 (x - 1) = 3, and of that with half of each element.
+const EIGHTHS: (&str, &str) = (
+    "g=40 B=1 M=0",
+    "1.3750000000000000 1.3750000000000000 0E-29",
+);
+
+const SEVENTHS: (&str, &str) = (
+    "g=40 B=1 M=1",
+    "1.4285714285712000 1.4285714285716000 20000000000000000E-29",
+);
+
+const HALVED: (&str, &str) = (
+    "g=40 B=1 M=1",
+    "1.4285714285712000 1.4285714285716000 10000000000000000E-29",
+);
 
 #[derive(Clone, Copy)]
 struct Row<'a> {
@@ -199,61 +209,139 @@ fn reports(rt: HostRuntime) -> Result<(), Fail> {
 
 // A control file over files with these names, and with this text behind each name.
 fn control_of(alloc: Global, names: &[&str], more: &[&str]) -> Result<String, AllocError> {
-    let mut text =
-        String::from_str(alloc, "output = { agency = 'ABC', created = '24:002:00000' }\n")?;
+    let mut text = String::from_str(
+        alloc,
+        "output = { agency = 'ABC', created = '24:002:00000' }\n",
+    )?;
     for (name, more) in names.iter().zip(more) {
         text.push_str(format!(in alloc; "[[file]]\nname = '{name}'\n{more}\n")?.as_str())?;
     }
     Ok(text)
 }
 
-// A desk with that control file and three files of one parameter: their matrices are 4, 3 and 1, their right sides 2, 1 and 0.
-fn three_files(alloc: Global, control: &str) -> Result<MemDesk, AllocError> {
+// A desk with that control file and four files of one parameter: their matrices are 4, 3, 1 and 2, their right sides 2, 1, 0 and 1.
+fn four_files(alloc: Global, control: &str) -> Result<MemDesk, AllocError> {
     let mut desk = MemDesk::new(alloc, Vec::new(alloc));
     desk.add_file("con", control.as_bytes())?;
-    for (name, matrix, vector) in [("a", "4", "2"), ("b", "3", "1"), ("c", "1", "0")] {
+    for (name, matrix, vector) in [
+        ("a", "4", "2"),
+        ("b", "3", "1"),
+        ("c", "1", "0"),
+        ("d", "2", "1"),
+    ] {
         let text = file_of(alloc, "1", matrix, vector)?;
         desk.add_file(name, text.as_bytes())?;
     }
     Ok(desk)
 }
 
-// 8 (x - 1) = 3, whatever the order and the groups, and with equal weights.
+// Whatever the order and the groups, one report; with the weight .5 in each file the same bounds, and half the residual.
 #[test]
 fn combines(rt: HostRuntime) -> Result<(), Fail> {
     let alloc = rt.alloc();
-    for (names, more) in [
-        (["a", "b", "c"], ["", "", ""]),
-        (["c", "b", "a"], ["", "", ""]),
-        (["b", "a", "c"], ["group = 'g'", "", "group = 'g'"]),
+    let half = "weight = '.5'";
+    for (names, more, (certificate, numbers)) in [
+        (["a", "b", "c"], ["", "", ""], EIGHTHS),
+        (["c", "b", "a"], ["", "", ""], EIGHTHS),
+        (["b", "a", "c"], ["group = 'g'", "", "group = 'g'"], EIGHTHS),
         (
             ["a", "b", "c"],
-            ["weight = '.5'", "weight = '0.5'", "weight = '5E-1'"],
+            [half, "weight = '0.5'", "weight = '5E-1'"],
+            EIGHTHS,
         ),
+        (["a", "d", "c"], ["", "", ""], SEVENTHS),
+        (["a", "d", "c"], [half, half, half], HALVED),
     ] {
         let control = control_of(alloc, &names, &more)?;
-        let mut desk = three_files(alloc, control.as_str())?;
-        ends(&rt, &mut desk, "combine con out rep", 0, "", Some(COMBINATION))?;
+        let mut desk = four_files(alloc, control.as_str())?;
+        let report = report_of(alloc, certificate, numbers)?;
+        ends(
+            &rt,
+            &mut desk,
+            "combine con out rep",
+            0,
+            "",
+            Some(report.as_str()),
+        )?;
         assert_eq!(rt; desk.file("out"), Some(b"".as_slice()));
     }
     Ok(())
 }
 
-// The line of each refusal stands alone, and no file is created.
-#[test]
-fn refusals(rt: HostRuntime) -> Result<(), Fail> {
+// A run of the line over the desk with that control file says this line alone, and leaves the files as they were.
+fn refuses<R: Threads + Sync + Abort + AllocGlobal>(
+    rt: &R,
+    control: &str,
+    line: &str,
+    status: u8,
+    said: &str,
+) -> Result<(), Fail> {
     let alloc = rt.alloc();
+    let before = four_files(alloc, control)?;
+    let mut desk = four_files(alloc, control)?;
+    ends(rt, &mut desk, line, status, said, None)?;
+    for name in ["con", "a", "b", "c", "d", "out"] {
+        assert_eq!(rt; desk.file(name), before.file(name));
+    }
+    Ok(())
+}
+
+#[test]
+fn lines_are_refused(rt: HostRuntime) -> Result<(), Fail> {
+    let control = control_of(rt.alloc(), &["b", "c"], &["", ""])?;
     for (line, status, said) in [
         ("solve in in", 2, "snxcomb: words\n"),
+        ("solve in", 2, "snxcomb: words\n"),
         ("combine con out out", 2, "snxcomb: words\n"),
+        ("combine con con rep", 2, "snxcomb: words\n"),
+        ("solve none rep", 3, "snxcomb: no file none\n"),
         ("combine none out rep", 3, "snxcomb: no file none\n"),
         ("combine con c rep", 3, "snxcomb: control samename c\n"),
+        ("combine con out b", 3, "snxcomb: control samename b\n"),
         ("combine a out rep", 3, "snxcomb: control syntax\n"),
     ] {
-        let control = control_of(alloc, &["b", "c"], &["", ""])?;
-        let mut desk = three_files(alloc, control.as_str())?;
-        ends(&rt, &mut desk, line, status, said, None)?;
-        assert_eq!(rt; desk.file("out"), None);
+        refuses(&rt, control.as_str(), line, status, said)?;
+    }
+    Ok(())
+}
+
+// Each control file has two files, and one fault or more. Two causes come in their stated order.
+#[test]
+fn controls_are_refused(rt: HostRuntime) -> Result<(), Fail> {
+    let reduce = "[[reduce]]\nat = 'end'\nparam = ['STAX', 'ABCD', 'A', '1', '24:001:00000']";
+    for (names, more, said) in [
+        (["b", "none"], ["", ""], "snxcomb: no file none\n"),
+        (["con", "none"], ["", ""], "snxcomb: control samename con\n"),
+        (
+            ["b", "b"],
+            ["", ""],
+            "snxcomb: control repeated file.1.name\n",
+        ),
+        (
+            ["b", "c"],
+            ["weigth = '1'", ""],
+            "snxcomb: control key file.0.weigth\n",
+        ),
+        (
+            ["b", "c"],
+            ["weight = 1", ""],
+            "snxcomb: control kind file.0.weight\n",
+        ),
+        (
+            ["b", "c"],
+            ["", "weight = '0'"],
+            "snxcomb: control value file.1.weight\n",
+        ),
+        (["b", "c"], ["weight = '1", ""], "snxcomb: control syntax\n"),
+        (["none", "c"], ["", reduce], "snxcomb: unbuilt con\n"),
+        (
+            ["c", "b"],
+            ["form = 'solution'", ""],
+            "snxcomb: unbuilt c\n",
+        ),
+    ] {
+        let control = control_of(rt.alloc(), &names, &more)?;
+        refuses(&rt, control.as_str(), "combine con out rep", 3, said)?;
     }
     Ok(())
 }
