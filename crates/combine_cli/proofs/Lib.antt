@@ -1,11 +1,11 @@
 pub mod Agreement
 pub mod AlikeInputs
 pub mod AlikeLaws
-pub mod BelowCore
 pub mod CombinedLaws
 pub mod Decisions
 pub mod EachLaws
 pub mod Equal
+pub mod ExactSystems
 pub mod GroupLaws
 pub mod GroupSorts
 pub mod GroupStacks

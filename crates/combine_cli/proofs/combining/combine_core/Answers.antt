@@ -5,7 +5,7 @@ use Rattle.neq_stack.specs.Neqs.{neq_view}
 use Rattle.run_inputs.specs.Views.{input_view}
 use Rattle.combine_cli.specs.Parts.{part_view}
 use Rattle.combine_cli.proofs.Agreement.{parts_agree, parts_known, parts_as_many}
-use Rattle.combine_cli.proofs.BelowCore.{is_certified_report}
+use Rattle.combine_cli.proofs.ExactSystems.{is_certified_report}
 use Rattle.combine_cli.proofs.CombinedLaws.{not_agreed, no_stack, no_report, combined_by}
 use Rattle.combine_cli.proofs.combining.combine_core.Goals as goal
 
