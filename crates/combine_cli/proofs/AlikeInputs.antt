@@ -1,19 +1,16 @@
 -- Alike controls read the same files.
-use Rattle.std.proofs.Common.{◌≡◌, ◌∙◌, ◌++◌, ◌∷◌, ◌-◌, ◌||◌, ℕ, Bool, true, false, cond, min, List, [], length, map, sum, Option, Some, None, Result, Ok, Err, refl, ap, sym, subst}
-use Rattle.std.specs.List.{find}
+use Rattle.std.proofs.Common.{◌≡◌, ◌∷◌, ◌-◌, ℕ, min, List, [], length, map, sum, Option, Ok, refl, ap, sym, subst}
 use Rattle.std.specs.List.Sorted.{IsPermutation}
 use Rattle.std.specs.Ordering.{nat_cmp}
 use Rattle.std.specs.Cmp.Lexicographic.{slice_cmp}
 use Rattle.std.specs.declared.cmp.Ordering.TheVariants.{Less}
 use Rattle.std.proofs.lemmas.List.Sorted.{IsPermutation-trans, IsPermutation-sym, IsPermutation-map}
 use Rattle.stated_order.specs.Lists.{AreEach, Ascends}
-use Rattle.stated_order.specs.Steps.{InTurn}
 use Rattle.stated_order.proofs.StepLaws.{then_gives}
 use Rattle.desk_io.specs.Content.{File}
-use Rattle.snx_blocks.specs.Documents.{PlainDoc}
 use Rattle.control_doc.specs.Plain.{PlainPlan, PlainControl}
 use Rattle.run_inputs.specs.Files.{ReadsFile, ReadsText, file_limit, total_limit}
-use Rattle.run_inputs.specs.Inputs.{PlainInput, ComesBefore, AreInNameOrder, limit_after, IsInput, AreInputs, ReadsInputs}
+use Rattle.run_inputs.specs.Inputs.{PlainInput, ComesBefore, AreInNameOrder, limit_after, IsInput, ReadsInputs}
 use Rattle.combine_cli.specs.Alike.{ungrouped, AreAlike}
 use Rattle.combine_cli.proofs.EachLaws.{maps_from_each, each_from_maps, went_on, in_turn_alike, lifted}
 

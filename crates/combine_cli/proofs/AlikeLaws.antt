@@ -1,14 +1,11 @@
 -- Alike controls are admitted together, and give the same texts.
-use Rattle.std.proofs.Common.{◌≡◌, ◌≢◌, ◌∙◌, ◌++◌, ◌∷◌, ◌⊎◌, ◌||◌, ℕ, Bool, true, false, cond, List, [], length, map, append-nil, append_assoc, Option, Some, None, Result, Ok, Err, refl, ap, sym, subst, inl, inr}
-use Rattle.std.proofs.Math.ListN.{get_or-map}
-use Rattle.std.proofs.lemmas.List.{length-map}
-use Rattle.std.specs.Prelude.{All, Contains, ◌↔◌}
-use Rattle.std.specs.List.{Any, AllByRecursion, filter, find, flat_map}
-use Rattle.std.specs.List.Sorted.{IsPermutation}
-use Rattle.std.proofs.lemmas.List.Elements.{All-from_recursion, recursion_from_All, All-map, All-filter, All-weaker, All-contains_itself}
+use Rattle.std.proofs.Common.{◌≡◌, ◌∙◌, ◌++◌, ◌∷◌, Bool, true, false, cond, List, [], map, append-nil, append_assoc, Option, Some, None, Ok, refl, ap, sym, subst}
+use Rattle.std.specs.Prelude.{All}
+use Rattle.std.specs.List.{Any, AllByRecursion, find}
+use Rattle.std.proofs.lemmas.List.Elements.{All-from_recursion, recursion_from_All}
 use Rattle.std.proofs.lemmas.List.Sorted.{IsPermutation-sym, All-permutation}
 use Rattle.stated_order.specs.Lists.{AreEach}
-use Rattle.stated_order.specs.Steps.{Then, InTurn}
+use Rattle.stated_order.specs.Steps.{InTurn}
 use Rattle.stated_order.proofs.StepLaws.{then_gives}
 use Rattle.decimal_e.specs.Decimals.{Decimal}
 use Rattle.param_ids.specs.Tables.{ScaleMap}
@@ -24,9 +21,8 @@ use Rattle.run_inputs.specs.Words.{CombinedFiles}
 use Rattle.run_inputs.specs.Controls.{is_named, apart_from, apart, built_of, built}
 use Rattle.run_inputs.specs.Inputs.{PlainInput, ReadsInputs}
 use Rattle.combine_cli.specs.Alike.{ungrouped, AreAlike, AlikeAreAdmitted, AlikeCombine}
-use Rattle.combine_cli.specs.Combination.{apriori_rows, Clash, ClashesWith, IsAgreed, AreAgreed, RecoversBy, Recovers, Part, IsPart, AreParts, Group, AreGroups, is_in_group, members, IsGroupStack, AreGroupStacks, IsWholeStack, StacksParts, Reports, Texts, IsCombined}
+use Rattle.combine_cli.specs.Combination.{apriori_rows, Clash, ClashesWith, IsAgreed, AreAgreed, RecoversBy, Recovers, Part, IsPart, AreParts, Group, members, IsGroupStack, AreGroupStacks, IsWholeStack, StacksParts, Texts, IsCombined}
 use Rattle.combine_cli.specs.Parts.{neqs_of}
-use Rattle.combine_cli.specs.Verdict.{Combines}
 use Rattle.neq_stack.proofs.Laws.{stacks_regroup, stacks_move, some_have_stack}
 use Rattle.combine_cli.proofs.EachLaws.{maps_from_each, any_alike, went_on, in_turn_alike}
 use Rattle.combine_cli.proofs.GroupLaws.{plans_in, all_members, members_among, groups_part, groups_exist}

@@ -1,10 +1,9 @@
 -- What is decided of a run, from what its steps answer.
-use Rattle.std.proofs.Common.{◌≡◌, ◌≢◌, ℕ, List, Option, Result, Ok, Err, IfOk, IfErr, refl, sym, ap, subst}
+use Rattle.std.proofs.Common.{◌≡◌, ℕ, List, Option, Result, Ok, Err, IfOk, IfErr, subst}
 use Rattle.stated_order.proofs.StepLaws.{then_gives, then_stops}
 use Rattle.desk_io.specs.Content.{File, Content, KeepsAll}
 use Rattle.desk_io.specs.Outputs.{NamedText}
 use Rattle.control_doc.specs.Plain.{PlainControl}
-use Rattle.refusal_lines.specs.Refusals.{status_of}
 use Rattle.refusal_lines.specs.declared.refusal.Refusal.{Refusal}
 use Rattle.run_inputs.specs.Words.{PlainCommand, AreCommand}
 use Rattle.run_inputs.specs.Inputs.{PlainInput, ReadsInputs}

@@ -1,5 +1,5 @@
 -- The groups of some files part them: each file is in one group.
-use Rattle.std.proofs.Common.{◌≡◌, ◌≢◌, ◌∙◌, ◌++◌, ◌∷◌, ◌⊎◌, ◌&&◌, ◌==◌, ◌<◌, ℕ, zero, suc, List, [], length, get_or, map, Bool, true, false, not, cond, refl, ap, sym, subst, inl, inr, arith}
+use Rattle.std.proofs.Common.{◌≡◌, ◌≢◌, ◌∙◌, ◌++◌, ◌∷◌, ◌⊎◌, ◌&&◌, ◌==◌, zero, suc, List, [], map, Bool, true, false, not, cond, refl, ap, sym, subst, inl, inr, arith}
 use Rattle.std.proofs.Math.ListN.{get_or-map}
 use Rattle.std.proofs.lemmas.List.{length-map, map-append}
 use Rattle.std.specs.Prelude.{Contains, All, ◌↔◌}
@@ -12,7 +12,7 @@ use Rattle.std.proofs.lemmas.Slice.Eq.{bytes_eq-Decides}
 use Rattle.std.proofs.lemmas.Cmp.{tied_itself}
 use Rattle.std.specs.Ordering.{ordering_reverse}
 use Rattle.std.proofs.lemmas.List.Elements.{All-from_recursion, recursion_from_All, All-map, All-filter, All-contains, All-contains_itself, All-weaker}
-use Rattle.std.proofs.lemmas.List.Sorted.{IsPermutation-refl, IsPermutation-trans, IsPermutation-sym, IsPermutation-map, IsPermutation-append_right, IsPermutation-filter_both}
+use Rattle.std.proofs.lemmas.List.Sorted.{IsPermutation-refl, IsPermutation-trans, IsPermutation-map, IsPermutation-append_right, IsPermutation-filter_both}
 use Rattle.control_doc.specs.Plain.{PlainPlan}
 use Rattle.neq_stack.specs.Neqs.{PlainNeq}
 use Rattle.combine_cli.specs.Combination.{Part, Group, group_of, place_of, group_cmp, AreGroups, is_in_group, members}

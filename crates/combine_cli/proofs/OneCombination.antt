@@ -1,9 +1,7 @@
 -- Files that were read have one combination at most: texts, or one first refusal.
-use Rattle.std.proofs.Common.{◌≡◌, ◌∙◌, ◌∷◌, List, [], map, Bool, true, false, Result, Ok, Err, refl, ap, sym, subst}
+use Rattle.std.proofs.Common.{◌≡◌, ◌∙◌, List, [], map, Bool, true, false, Ok, Err, refl, ap, sym, subst}
 use Rattle.std.specs.Prelude.{Contains, IsTrue, ◌↔◌}
-use Rattle.std.specs.Ordering.{nat_cmp}
 use Rattle.std.specs.Cmp.{IsTotalOrder}
-use Rattle.std.specs.Cmp.Lexicographic.{slice_cmp}
 use Rattle.std.specs.declared.cmp.Ordering.{Ordering}
 use Rattle.std.specs.declared.cmp.Ordering.TheVariants.{Less, Equal, Greater}
 use Rattle.std.specs.Ordering.{ordering_then}
@@ -22,10 +20,9 @@ use Rattle.neq_stack.specs.Neqs.{PlainNeq}
 use Rattle.neq_stack.specs.Stacks.{IsStacked}
 use Rattle.recover_neq.specs.Recovery.{IsRecovered}
 use Rattle.recover_neq.proofs.Alone.{recovered_is_one}
-use Rattle.stack_rules.specs.Rules.{Numbers, IsAnswer}
+use Rattle.stack_rules.specs.Rules.{IsAnswer}
 use Rattle.stack_rules.proofs.Alone.{answer_is_one}
 use Rattle.bounds_text.specs.Report.{numbers_report}
-use Rattle.refusal_lines.specs.declared.refusal.Refusal.{Refusal}
 use Rattle.run_inputs.specs.Inputs.{PlainInput}
 use Rattle.combine_cli.specs.Causes.{refusal_of_recovery, refusal_of_rules}
 use Rattle.combine_cli.specs.Combination.{IsAgreed, AreAgreed, RecoversBy, Recovers, Part, IsPart, AreParts, Group, place_of, group_cmp, AreGroups, IsGroupStack, AreGroupStacks, IsWholeStack, StacksParts, stack_in, Reports, IsCombined}

@@ -9,7 +9,7 @@ use Rattle.desk_io.specs.Content.{File, Content, KeepsAll, IsFront}
 use Rattle.desk_io.specs.Desk.{Says}
 use Rattle.desk_io.specs.Whole.{HoldsPart}
 use Rattle.desk_io.specs.declared.outputs.Output.{Output}
-use Rattle.desk_io.specs.Outputs.{NamedText, named_text, HoldsWhole, WritesOne, CutsOne, AllWritten, CutAmong, Writing, NamesNone, NamesDiffer, StandsWhole, StandsCut}
+use Rattle.desk_io.specs.Outputs.{NamedText, named_text, HoldsWhole, Writing, NamesNone, NamesDiffer, StandsWhole, StandsCut}
 use Rattle.desk_io.specs.declared.desk.DeskError.{DeskError}
 use Rattle.desk_io.specs.declared.desk.DeskError.TheVariants as desk
 use Rattle.stated_order.specs.Steps.{GoesOn, Then}
@@ -19,11 +19,11 @@ use Rattle.refusal_lines.specs.Refusals.{status_of, line_of}
 use Rattle.refusal_lines.specs.declared.refusal.Refusal.{Refusal}
 use Rattle.refusal_lines.specs.declared.refusal.Refusal.TheVariants.{Memory, Desk}
 use Rattle.run_inputs.specs.Words.{PlainCommand, Solve, Combine, CombinedFiles, AreCommand, NamesOutput, outputs_of}
-use Rattle.run_inputs.specs.Controls.{is_named, apart_from, apart, ReadsControl}
+use Rattle.run_inputs.specs.Controls.{is_named, apart_from, ReadsControl}
 use Rattle.combine_cli.specs.Combination.{Texts}
 use Rattle.combine_cli.specs.Verdict.{Outcome, IsVerdict, HasControl, outputs_with}
 use Rattle.combine_cli.specs.Headline.{AreWritten, IsCertifiedRun}
-use Rattle.combine_cli.specs.Runs.{HasVerdict, AfterReading, Leaves, SaysPart, StoppedAt, StoppedThen, SaysMemory, SaysFault, Excuses, named_input, ReadsName}
+use Rattle.combine_cli.specs.Runs.{HasVerdict, Leaves, SaysPart, StoppedAt, StoppedThen, Excuses, named_input, ReadsName}
 use Rattle.combine_cli.specs.Plan.{IsPlanned}
 use Rattle.run_inputs.proofs.Alone.{words_are_one}
 use Rattle.combine_cli.proofs.Verdicts.{one_verdict, planned_verdict, planned_run}

@@ -1,5 +1,5 @@
 -- The parts of a stack are sound: what a part has of a parameter, the stack has.
-use Rattle.std.proofs.Common.{◌≡◌, ◌∙◌, ◌++◌, ◌∷◌, ◌<◌, ◌≤◌, ◌^◌, ℕ, ℤ, zero, suc, List, [], length, get_or, map, slice_get, Some, Option, Result, Ok, Err, refl, ap, sym, subst, arith}
+use Rattle.std.proofs.Common.{◌≡◌, ◌∙◌, ◌++◌, ◌∷◌, ◌<◌, ◌^◌, ℕ, ℤ, zero, suc, List, [], length, get_or, slice_get, Some, Ok, refl, ap, sym, subst, arith}
 use Rattle.std.proofs.lemmas.List.{length-map}
 use Rattle.std.specs.Prelude.{All, Contains}
 use Rattle.std.proofs.lemmas.Option.{slice_get-get_or, same_Some}
@@ -16,7 +16,6 @@ use Rattle.control_doc.specs.declared.plans.Form.TheVariants as forms
 use Rattle.neq_stack.specs.Neqs.{PlainNeq, IsSound}
 use Rattle.neq_stack.specs.ByName.{Parameter, HasParameter}
 use Rattle.neq_stack.specs.Stacks.{IsStackOf}
-use Rattle.neq_stack.specs.Systems.{no_name}
 use Rattle.recover_neq.specs.Blocks.{Blocks}
 use Rattle.recover_neq.specs.Recovery.{IsNeqOf, IsRecovered}
 use Rattle.run_inputs.specs.Inputs.{PlainInput}

@@ -1,13 +1,12 @@
 -- A stack of all parts is the stack of the stacks of their groups.
-use Rattle.std.proofs.Common.{◌≡◌, ◌∙◌, ◌++◌, ◌∷◌, ◌⊎◌, ℕ, List, [], map, refl, ap, sym, subst, inl, inr}
+use Rattle.std.proofs.Common.{◌≡◌, ◌∙◌, ◌++◌, ◌∷◌, ◌⊎◌, List, [], map, refl, ap, sym, inl, inr}
 use Rattle.std.proofs.lemmas.List.{map-append}
 use Rattle.std.specs.Prelude.{Contains, ◌↔◌}
 use Rattle.std.specs.List.{Any, flat_map}
 use Rattle.stated_order.specs.Lists.{AreEach}
 use Rattle.whole_numbers.specs.Intervals.{Interval, interval_add}
-use Rattle.param_ids.specs.Plain.{PlainId}
 use Rattle.neq_stack.specs.Neqs.{PlainNeq}
-use Rattle.neq_stack.specs.ByName.{Parameter, HasParameter, entry_in, right_in}
+use Rattle.neq_stack.specs.ByName.{HasParameter, entry_in, right_in}
 use Rattle.neq_stack.specs.Stacks.{IsStackOf, sum_of_intervals}
 use Rattle.neq_stack.proofs.Laws.{sum_append}
 use Rattle.combine_cli.proofs.EachLaws.{any_cases, any_here, any_later, any_none, any_alike, any_onward, maps_from_each}

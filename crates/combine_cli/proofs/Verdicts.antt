@@ -1,5 +1,5 @@
 -- A run has one verdict, and what gives it.
-use Rattle.std.proofs.Common.{◌≡◌, ◌≢◌, ◌∙◌, ◌∷◌, ℕ, List, [], Option, None, Result, Ok, Err, codes, refl, sym, subst}
+use Rattle.std.proofs.Common.{◌≡◌, ◌≢◌, ◌∙◌, ◌∷◌, ℕ, List, [], Option, None, Ok, Err, codes, refl, sym, subst}
 use Rattle.std.proofs.lemmas.List.Sorted.{IsPermutation-refl}
 use Rattle.stated_order.specs.Steps.{IsOne, Then}
 use Rattle.stated_order.proofs.StepLaws.{then_is_one, then_gives, then_stops}
@@ -11,7 +11,7 @@ use Rattle.refusal_lines.specs.declared.refusal.Refusal.{Refusal}
 use Rattle.run_inputs.specs.Words.{PlainCommand, Solve, Combine, AreCommand, ReadsWords}
 use Rattle.refusal_lines.specs.declared.refusal.Refusal.TheVariants.{Words, NoFile}
 use Rattle.run_inputs.specs.Files.{ReadsFile}
-use Rattle.run_inputs.specs.Inputs.{PlainInput, IsInput, ReadsInputs, limit_after}
+use Rattle.run_inputs.specs.Inputs.{IsInput, ReadsInputs, limit_after}
 use Rattle.combine_cli.specs.Combination.{Texts, IsCombined}
 use Rattle.combine_cli.specs.Verdict.{Outcome, Combines, HasControl, IsVerdict, outputs_with}
 use Rattle.combine_cli.specs.Headline.{AreWritten, IsCertifiedRun}

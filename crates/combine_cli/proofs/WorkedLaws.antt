@@ -1,5 +1,5 @@
 -- The exact systems of worked documents.
-use Rattle.std.proofs.Common.{List, ◌≡◌, ◌∷◌, ◌*ℤ◌, ◌+ℤ◌, ℕ, ℤ, Bool, true, false, pos, [], Some, Ok, refl, sym, ap, ◌∙◌, subst, arith, cond, if◌then◌else◌}
+use Rattle.std.proofs.Common.{List, ◌≡◌, ◌∷◌, ◌*ℤ◌, ◌+ℤ◌, ℕ, ℤ, Bool, true, false, pos, [], Ok, refl, sym, subst, arith, cond, if◌then◌else◌}
 use Rattle.std.proofs.lemmas.Int.{ints}
 use Rattle.std.proofs.lemmas.List.Elements.{All-head, All-tail}
 use Rattle.stated_order.specs.Lists.{AreEach}

@@ -12,7 +12,7 @@ use Rattle.param_ids.specs.Tables.{ScaleMap}
 use Rattle.snx_rows.specs.declared.rows.Row.{Row}
 use Rattle.snx_blocks.specs.Documents.{PlainDoc}
 use Rattle.snx_blocks.specs.declared.sections.Section.TheVariants.{Apriori}
-use Rattle.control_doc.specs.Plain.{PlainPlan, PlainControl}
+use Rattle.control_doc.specs.Plain.{PlainPlan}
 use Rattle.control_doc.specs.declared.plans.Form.{Form}
 use Rattle.control_doc.specs.declared.plans.Form.TheVariants as forms
 use Rattle.neq_stack.specs.Neqs.{PlainNeq}

@@ -1,9 +1,9 @@
 -- What a run leaves.
-use Rattle.std.specs.Prelude.{◌≡◌, ◌≢◌, ◌⊎◌, ◌++◌, ◌≤◌, ℕ, List, [], Option, Result, Ok, Err, IsErrOf}
+use Rattle.std.specs.Prelude.{◌≡◌, ◌⊎◌, ◌++◌, ℕ, List, Option, Result, Ok, Err, IsErrOf}
 use Rattle.std.specs.List.{Any}
 use Rattle.desk_io.specs.Content.{File, Content, KeepsAll, IsFront}
-use Rattle.desk_io.specs.Desk.{Rose, Says}
-use Rattle.desk_io.specs.Outputs.{NamedText, StandsWhole, StandsCut}
+use Rattle.desk_io.specs.Desk.{Says}
+use Rattle.desk_io.specs.Outputs.{StandsWhole, StandsCut}
 use Rattle.desk_io.specs.declared.desk.DeskError.{DeskError}
 use Rattle.desk_io.specs.declared.desk.DeskError.TheVariants as desk
 use Rattle.refusal_lines.specs.Refusals.{status_of, line_of}

@@ -1,14 +1,14 @@
 -- What a run is to do: a relation of its words, the files by name and its outcome, and of nothing else. It is said as steps in
 -- their order: the words, the control file, the files in the order of their names, and their combination. The first that refuses
 -- gives the outcome.
-use Rattle.std.specs.Prelude.{◌≡◌, ◌∷◌, ℕ, List, [], Option, Result, Ok, Err}
+use Rattle.std.specs.Prelude.{◌≡◌, ◌∷◌, ℕ, List, [], Option, Result, Ok}
 use Rattle.stated_order.specs.Steps.{Then}
 use Rattle.desk_io.specs.Content.{File}
 use Rattle.desk_io.specs.Outputs.{NamedText}
 use Rattle.control_doc.specs.Plain.{PlainControl}
 use Rattle.control_doc.specs.Single.{alone_control}
 use Rattle.refusal_lines.specs.declared.refusal.Refusal.{Refusal}
-use Rattle.run_inputs.specs.Words.{PlainCommand, Solve, Combine, CombinedFiles, ReadsWords}
+use Rattle.run_inputs.specs.Words.{PlainCommand, Solve, Combine, ReadsWords}
 use Rattle.run_inputs.specs.Controls.{ReadsControl}
 use Rattle.run_inputs.specs.Inputs.{ReadsInputs}
 use Rattle.combine_cli.specs.Combination.{Texts, IsCombined}

@@ -1,5 +1,5 @@
 -- Worked values, at which the laws of src/laws.rt tie the definitions.
-use Rattle.std.specs.Prelude.{◌∷◌, ℕ, ℤ, pos, negsuc, List, [], Some, None, codes, if◌then◌else◌}
+use Rattle.std.specs.Prelude.{◌∷◌, ℕ, ℤ, pos, negsuc, [], Some, None, codes, if◌then◌else◌}
 use Rattle.decimal_e.specs.Decimals.{Decimal}
 use Rattle.snx_epoch.specs.declared.Epoch.TheVariants.{Never}
 use Rattle.param_ids.specs.Plain.{PlainId}

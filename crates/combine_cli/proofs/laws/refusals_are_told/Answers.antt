@@ -1,7 +1,5 @@
-use Rattle.std.proofs.Common.{◌≡◌, ◌≢◌, ◌∷◌, [], ℕ, List, Option, None, Err, codes, refl, sym, subst}
+use Rattle.std.proofs.Common.{refl}
 use Rattle.std.specs.Fmt.{digits}
-use Rattle.desk_io.specs.Content.{File}
-use Rattle.combine_cli.specs.Verdict.{Outcome, IsVerdict}
 use Rattle.combine_cli.proofs.Verdicts.{no_words, no_file}
 use Rattle.combine_cli.proofs.laws.refusals_are_told.Goals as goal
 

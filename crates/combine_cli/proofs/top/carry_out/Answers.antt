@@ -1,4 +1,4 @@
-use Rattle.std.proofs.Common.{◌≢◌, ℕ, map, string_bytes, arith}
+use Rattle.std.proofs.Common.{◌≢◌, map, string_bytes, arith}
 use Rattle.desk_io.specs.Outputs.{named_text}
 use Rattle.refusal_lines.specs.Refusals.{status_of}
 use Rattle.combine_cli.proofs.RunLaws.{on_err, done_writing, done_saying, planned_slice, planned_differ, certified_writing, cut_before, cut_writing, cut_saying, untouched_by_writing, said_by_writing}
