@@ -3,7 +3,7 @@ mod Chain
 mod Shorts
 mod FileSteps
 mod Turns
-mod OneAnswer
+pub mod OneAnswer
 mod SiteLists
 mod DatumSteps
 mod WholeSteps

@@ -14,7 +14,7 @@ use Rattle.run_inputs.specs.Files.{ReadsFile, ReadsText, control_limit}
 use Rattle.run_inputs.specs.Controls.{refusal_of_fault, SaysControl, SaysRun, ReadsControl, apart, built}
 use Rattle.run_inputs.specs.Inputs.{PlainInput, IsInputWithin, IsInput, AreInputs, ReadsInputs, limit_after}
 use Rattle.run_inputs.proofs.NameOrder.{one_order}
-use Rattle.run_inputs.proofs.OneControl.{one_control_of}
+use Rattle.control_doc.proofs.OneAnswer.{one_control_of}
 
 -- ---- words
 same_solved : (words : List (List ℕ)) (a b : SolvedFiles) → AreSolve words a → AreSolve words b → a ≡ b

@@ -207,13 +207,14 @@ fn reports(rt: HostRuntime) -> Result<(), Fail> {
     rows_end(&rt, ROWS)
 }
 
-// A control file over files with these names, and with this text behind each name.
-fn control_of(alloc: Global, names: &[&str], more: &[&str]) -> Result<String, AllocError> {
+// A control file over these files: each has a name, and what else is said of it behind a blank.
+fn control_of(alloc: Global, files: &str) -> Result<String, AllocError> {
     let mut text = String::from_str(
         alloc,
         "output = { agency = 'ABC', created = '24:002:00000' }\n",
     )?;
-    for (name, more) in names.iter().zip(more) {
+    for file in files.split("; ") {
+        let (name, more) = file.split_once(" ").unwrap_or((file, ""));
         text.push_str(format!(in alloc; "[[file]]\nname = '{name}'\n{more}\n")?.as_str())?;
     }
     Ok(text)
@@ -239,20 +240,18 @@ fn four_files(alloc: Global, control: &str) -> Result<MemDesk, AllocError> {
 #[test]
 fn combines(rt: HostRuntime) -> Result<(), Fail> {
     let alloc = rt.alloc();
-    let half = "weight = '.5'";
-    for (names, more, (certificate, numbers)) in [
-        (["a", "b", "c"], ["", "", ""], EIGHTHS),
-        (["c", "b", "a"], ["", "", ""], EIGHTHS),
-        (["b", "a", "c"], ["group = 'g'", "", "group = 'g'"], EIGHTHS),
+    for (files, (certificate, numbers)) in [
+        ("a; b; c", EIGHTHS),
+        ("c; b; a", EIGHTHS),
+        ("b group = 'g'; a; c group = 'g'", EIGHTHS),
         (
-            ["a", "b", "c"],
-            [half, "weight = '0.5'", "weight = '5E-1'"],
+            "a weight = '.5'; b weight = '0.5'; c weight = '5E-1'",
             EIGHTHS,
         ),
-        (["a", "d", "c"], ["", "", ""], SEVENTHS),
-        (["a", "d", "c"], [half, half, half], HALVED),
+        ("a; d; c", SEVENTHS),
+        ("a weight = '.5'; d weight = '.5'; c weight = '.5'", HALVED),
     ] {
-        let control = control_of(alloc, &names, &more)?;
+        let control = control_of(alloc, files)?;
         let mut desk = four_files(alloc, control.as_str())?;
         let report = report_of(alloc, certificate, numbers)?;
         ends(
@@ -288,7 +287,7 @@ fn refuses<R: Threads + Sync + Abort + AllocGlobal>(
 
 #[test]
 fn lines_are_refused(rt: HostRuntime) -> Result<(), Fail> {
-    let control = control_of(rt.alloc(), &["b", "c"], &["", ""])?;
+    let control = control_of(rt.alloc(), "b; c")?;
     for (line, status, said) in [
         ("solve in in", 2, "snxcomb: words\n"),
         ("solve in", 2, "snxcomb: words\n"),
@@ -308,39 +307,24 @@ fn lines_are_refused(rt: HostRuntime) -> Result<(), Fail> {
 // Each control file has two files, and one fault or more. Two causes come in their stated order.
 #[test]
 fn controls_are_refused(rt: HostRuntime) -> Result<(), Fail> {
-    let reduce = "[[reduce]]\nat = 'end'\nparam = ['STAX', 'ABCD', 'A', '1', '24:001:00000']";
-    for (names, more, said) in [
-        (["b", "none"], ["", ""], "snxcomb: no file none\n"),
-        (["con", "none"], ["", ""], "snxcomb: control samename con\n"),
+    for (files, said) in [
+        ("b; none", "snxcomb: no file none\n"),
+        ("con; none", "snxcomb: control samename con\n"),
+        ("b; b", "snxcomb: control repeated file.1.name\n"),
+        ("b weigth = '1'; c", "snxcomb: control key file.0.weigth\n"),
+        ("b weight = 1; c", "snxcomb: control kind file.0.weight\n"),
         (
-            ["b", "b"],
-            ["", ""],
-            "snxcomb: control repeated file.1.name\n",
-        ),
-        (
-            ["b", "c"],
-            ["weigth = '1'", ""],
-            "snxcomb: control key file.0.weigth\n",
-        ),
-        (
-            ["b", "c"],
-            ["weight = 1", ""],
-            "snxcomb: control kind file.0.weight\n",
-        ),
-        (
-            ["b", "c"],
-            ["", "weight = '0'"],
+            "b; c weight = '0'",
             "snxcomb: control value file.1.weight\n",
         ),
-        (["b", "c"], ["weight = '1", ""], "snxcomb: control syntax\n"),
-        (["none", "c"], ["", reduce], "snxcomb: unbuilt con\n"),
+        ("b weight = '1; c", "snxcomb: control syntax\n"),
         (
-            ["c", "b"],
-            ["form = 'solution'", ""],
-            "snxcomb: unbuilt c\n",
+            "none; c [[reduce]]\nat = 'end'\nparam = ['STAX', 'ABCD', 'A', '1', '24:001:00000']",
+            "snxcomb: unbuilt con\n",
         ),
+        ("c form = 'solution'; b", "snxcomb: unbuilt c\n"),
     ] {
-        let control = control_of(rt.alloc(), &names, &more)?;
+        let control = control_of(rt.alloc(), files)?;
         refuses(&rt, control.as_str(), "combine con out rep", 3, said)?;
     }
     Ok(())
