@@ -106,10 +106,10 @@ def bytes_of_rows():
 def dense():
     """The files of bench/make_file.py: as many rows in four forms have one report."""
     for rows in (1, 2, 6, 20):
-        report = solve.verdict("in", make_file.text(rows).encode())[1]
+        report = solve.verdict("in", make_file.single(rows).encode())[1]
         for values in (1, 3):
             for triangle in ("L", "U"):
-                yield Case(f"{rows} rows, {values} values a line, {triangle}", make_file.text(rows, values, triangle).encode(), report)
+                yield Case(f"{rows} rows, {values} values a line, {triangle}", make_file.single(rows, values, triangle).encode(), report)
 
 
 def examples():
