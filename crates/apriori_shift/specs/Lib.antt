@@ -1,0 +1,4 @@
+pub mod Answers
+pub mod Common
+pub mod Moves
+pub mod Shifts

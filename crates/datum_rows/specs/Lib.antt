@@ -1,0 +1,5 @@
+pub mod Additions
+pub mod Answers
+pub mod Conditions
+pub mod Exact
+pub mod Sites

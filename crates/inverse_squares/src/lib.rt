@@ -1,0 +1,34 @@
+//! Whole numbers over the square of a decimal, as weights are made of standard deviations.
+#![tactic(auto)]
+
+ghost use Rattle.std.specs.Prelude.{◌≤◌, ◌<◌, ◌^◌, pos, negsuc, ◌≤ℤ◌, ◌<ℤ◌, unsigned_abs, SomeIff};
+ghost use Rattle.whole_numbers.specs.Intervals.{Interval, size};
+ghost use Rattle.inverse_squares.specs.Quotients.{IsOverSquare, OneOverSquare, OverSquareExists, OverSquareHolds};
+ghost use Rattle.inverse_squares.specs.Worked.{AreWorked};
+
+use decimal_e::Dec;
+use interval_word::Iv;
+
+/// The interval of `h * 10^z / s^2`, rounded outward, and None exactly where an end passes `10^37` in size.
+pub fn over_square(h: i128, s: &Dec, z: i32) -> Option<Iv>
+    requires positive { pos 0 <ℤ s.now.mant }
+    requires short { unsigned_abs s.now.mant < 10 ^ 18 }
+    requires few { unsigned_abs h ≤ 10 ^ 24 }
+    requires low { negsuc 99 ≤ℤ z }
+    requires high { z ≤ℤ pos 100 }
+    ensures { (w : Interval) × IsOverSquare h s.now z w × SomeIff result (size w ≤ 10 ^ 37) w }
+{
+    None
+}
+
+/// There is one interval over a square and no other, and it holds the exact value.
+pub fn squares_hold()
+    ensures one { OneOverSquare }
+    ensures exists { OverSquareExists }
+    ensures holds { OverSquareHolds }
+{}
+
+/// Quotients worked by hand are these intervals.
+pub fn worked_squares()
+    ensures { AreWorked }
+{}
