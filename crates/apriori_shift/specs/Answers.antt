@@ -9,8 +9,8 @@ use Rattle.param_ids.specs.Order.{id_cmp}
 use Rattle.snx_rows.specs.declared.rows.Row.{Row}
 use Rattle.recover_neq.specs.Blocks.{row_of, zero_decimal}
 use Rattle.difference_products.specs.Products.{Place}
-use Rattle.apriori_shift.specs.declared.common.CommonError.{CommonError}
-use Rattle.apriori_shift.specs.declared.common.CommonError.TheVariants as commons
+use Rattle.apriori_shift.specs.declared.commons.CommonError.{CommonError}
+use Rattle.apriori_shift.specs.declared.commons.CommonError.TheVariants as clashes
 use Rattle.apriori_shift.specs.declared.shifting.ShiftError.{ShiftError}
 use Rattle.apriori_shift.specs.declared.shifting.ShiftError.TheVariants as shifts
 
@@ -28,8 +28,8 @@ common_value table id = map_or (get id_cmp table id) zero_decimal (λ row. row.v
 
 -- what a refusal says: P of what it names, and nothing where memory is wanting
 abbrev pub IfClash : (PlainId → Type 0) → CommonError → Type 0
-IfClash P (commons.UnitClash id) = P id
-IfClash P commons.Memory = Unit {0}
+IfClash P (clashes.UnitClash id) = P id
+IfClash P clashes.Memory = Unit {0}
 
 abbrev pub IfRange : (Place → Type 0) → ShiftError → Type 0
 IfRange P (shifts.Range row col) = P (record { row = row; col = col })

@@ -5,10 +5,10 @@ ghost use Rattle.apriori_shift.specs.Common.{OneCommon};
 ghost use Rattle.apriori_shift.specs.Shifts.{OneShift};
 ghost use Rattle.apriori_shift.specs.Moves.{ShiftHolds, SystemsMove, MultiplesMove};
 
-mod common;
+mod commons;
 mod shifting;
 
-pub use common::{Apriori, CommonError, common};
+pub use commons::{Apriori, CommonError, common};
 pub use shifting::{ShiftError, shift};
 
 /// Rows have one common value of a name or one least clash, normal equations have one shift or one first place past its bound, a system

@@ -9,7 +9,7 @@ ghost use Rattle.neq_stack.specs.Neqs.{IsSound, neq_view};
 ghost use Rattle.apriori_shift.specs.Shifts.{IsShift};
 ghost use Rattle.apriori_shift.specs.Answers.{common_value, IfRange};
 
-use crate::common::Apriori;
+use crate::commons::Apriori;
 use neq_stack::Neq;
 use std::alloc::Global;
 use thiserror::Error;

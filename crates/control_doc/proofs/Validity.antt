@@ -1,5 +1,5 @@
--- What every control keeps: its files, their names and weights, and its scale exponents.
-use Rattle.std.proofs.Common.{◌≡◌, ◌≢◌, ◌≤◌, ◌<◌, ◌+◌, ◌∙◌, ◌++◌, ◌∷◌, inl, inr, ℕ, zero, suc, ℤ, pos, negsuc, List, [], Bool, true, false, ◌&&◌, ◌||◌, cond, if◌then◌else◌, length, get_or, Option, Some, None, Result, Ok, Err, IfOk, codes, refl, sym, ap, subst, arith, length-append}
+-- What every control keeps: its files, their names and weights, the standard deviations of its datum, and its scale exponents.
+use Rattle.std.proofs.Common.{◌≡◌, ◌≢◌, ◌≤◌, ◌<◌, ◌+◌, ◌∙◌, ◌++◌, ◌∷◌, inl, inr, ℕ, zero, suc, ℤ, pos, negsuc, List, [], Bool, true, false, ◌&&◌, ◌||◌, cond, if◌then◌else◌, length, get_or, Option, Some, None, Result, Ok, Err, IfOk, IfSome, codes, refl, sym, ap, subst, arith, length-append}
 use Rattle.std.specs.Prelude.{nat_le, int_le}
 use Rattle.std.specs.List.{All, AllPairs, list_all}
 use Rattle.std.specs.Str.{bytes_eq}
@@ -16,12 +16,12 @@ use Rattle.decimal_e.specs.Decimals.{Decimal}
 use Rattle.param_ids.specs.Tables.{ScaleMap, IsScaleMap, IsScale, standard_scales}
 use Rattle.param_ids.specs.Texts.{in_6}
 use Rattle.param_ids.proofs.Scaled.{is_scale_map_after, standard_is_scale_map, standard_len}
-use Rattle.control_doc.specs.Control.{Is, IsRead, IsControl, IsControlOf, IsPlan, IsWeight, IsDecimalIn, Parts, parts_in, top_keys, file_count, no_more_than, file_name, new_name, is_listed, one, is_positive_and_short, scale_keys, scales_from, with_scale, exponent_of, table_in}
+use Rattle.control_doc.specs.Control.{Is, IsRead, IsControl, IsControlOf, IsPlan, IsWeight, IsSigma, IsDatum, IsDatumIn, IsDecimalIn, IsDecimalAt, sites_in, with_sigma, Parts, parts_in, top_keys, file_count, no_more_than, file_name, new_name, is_listed, one, is_positive_and_short, scale_keys, scales_from, with_scale, exponent_of, table_in}
 use Rattle.control_doc.specs.Faults.{PlainFault, fault, or_fault, and_then, key_path}
-use Rattle.control_doc.specs.Plain.{PlainPlan, PlainControl}
+use Rattle.control_doc.specs.Plain.{PlainPlan, PlainDatum, PlainControl}
 use Rattle.control_doc.specs.Tables.{Entry, entries, entries_from, keys_of, only_keys, there, if_there, needed, text_needed, text_at, integer_at, table_at, tables_at}
 use Rattle.control_doc.specs.Texts.{file_text, shown, is_shown}
-use Rattle.control_doc.specs.Valid.{IsValidControl, IsFileName, AreNamed}
+use Rattle.control_doc.specs.Valid.{IsValidControl, IsFileName, AreNamed, IsPositiveAndShort, HasPositiveSigmas}
 use Rattle.control_doc.specs.Single.{alone_plan, alone_control}
 use Rattle.std.specs.declared.alloc.AllocError.{AllocError}
 use Rattle.control_doc.specs.Views.{Answers, control_view}
@@ -166,6 +166,43 @@ parts_value top parts h =
     let same : whole ≡ parts = ok_same whole parts g.2 in
     subst (λ (p : Parts). (1 ≤ length p.files) × ((length p.files ≤ 64) × (length (keys_of p.scale) ≤ 60))) same (counted.0, (counted.1, more_value 60 (codes "scale") scale.0 g.0 scale.2))
 
+-- ---- standard deviations
+sigma_value : (path : List ℕ) (given : Option Data) (sigma : Option Decimal) → IsSigma path given (Ok sigma) → IfSome sigma IsPositiveAndShort
+sigma_value path None sigma h = let same : sigma ≡ None = ok_same sigma None h in subst (λ o. IfSome o IsPositiveAndShort) (sym same) tt
+sigma_value path (Some given) sigma h =
+    let g = then_value (IsDecimalAt path given) (λ d r. r ≡ Ok (Some d)) sigma h in
+    let d = then_value (Is (text_at path given)) (IsDecimalIn path) g.gives g.given in
+    let same : sigma ≡ Some g.gives = ok_same sigma (Some g.gives) g.onward in
+    subst (λ o. IfSome o IsPositiveAndShort) (sym same) d.onward.1
+
+-- what is answered where one at least is given is the datum itself
+some_value : (datum found : PlainDatum) → with_sigma datum ≡ Ok found → datum ≡ found
+some_value datum found h = by_case datum.translation datum.rotation datum.scale refl refl refl h
+  where
+    by_case : (a b c : Option Decimal) → datum.translation ≡ a → datum.rotation ≡ b → datum.scale ≡ c → with_sigma datum ≡ Ok found → datum ≡ found
+    by_case None None None p q r e = absurd (cc)
+    by_case (Some a) b c p q r e = cc
+    by_case None (Some b) c p q r e = cc
+    by_case None None (Some c) p q r e = cc
+
+datum_value : (given : Option Members) (datum : Option PlainDatum) → IsDatum given (Ok datum) → IfSome datum HasPositiveSigmas
+datum_value None datum h = let same : datum ≡ None = ok_same datum None h in subst (λ o. IfSome o HasPositiveSigmas) (sym same) tt
+datum_value (Some members) datum h =
+    let a = then_value _ _ datum h in
+    let b = then_value _ _ datum a.onward in
+    let c = then_value _ _ datum b.onward in
+    let d = then_value _ _ datum c.onward in
+    let e = then_value _ _ datum d.onward in
+    let whole : PlainDatum = record { sites = a.gives; translation = b.gives; rotation = c.gives; scale = d.gives } in
+    let same : whole ≡ e.gives = some_value whole e.gives (sym e.given) in
+    let fine : HasPositiveSigmas whole = record {
+      translation = sigma_value (codes "datum.translation") (get_member (codes "translation") members) b.gives b.given;
+      rotation = sigma_value (codes "datum.rotation") (get_member (codes "rotation") members) c.gives c.given;
+      scale = sigma_value (codes "datum.scale") (get_member (codes "scale") members) d.gives d.given;
+    } in
+    let last : datum ≡ Some e.gives = ok_same datum (Some e.gives) e.onward in
+    subst (λ o. IfSome o HasPositiveSigmas) (sym last) (subst HasPositiveSigmas same fine)
+
 -- ---- scale exponents
 exponent_value : (path : List ℕ) (z t : ℤ) → exponent_of path z ≡ Ok t → IsScale t
 exponent_value path z t h = by_test (int_le (negsuc 3) z) (int_le z (pos 6)) refl refl h
@@ -226,6 +263,7 @@ control_value top control h =
         few = subst (λ n. n ≤ 64) (sym count) parts.1.0;
         apart = files.0;
         weights = λ n d lt. (files.1.0 n d lt).1;
+        sigmas = datum_value a.gives.datum e.gives e.given;
         scales = scales;
       },
       λ n d lt. (files.1.0 n d lt).0,
@@ -254,6 +292,7 @@ alone_valid name = record {
   few = omega arith;
   apart = λ i j d lt within. absurd (omega arith);
   weights = λ k d lt. by_place k d lt;
+  sigmas = tt;
   scales = standard_is_scale_map;
 }
   where

@@ -55,7 +55,7 @@ pub struct FilePlan {
 }
 
 /// A site of the datum. Texts stand at the left, with blanks behind them, as in a parameter's name.
-#[derive(Clone, Copy, PartialEq, Eq)]
+#[derive(Clone, Copy, Debug, PartialEq, Eq)]
 pub struct Site {
     /// Its code.
     pub code: [u8; 4],

@@ -1,5 +1,5 @@
 -- Normal equations with the rows of a datum.
-use Rattle.std.specs.Prelude.{◌≡◌, ◌≤◌, ◌<◌, ◌^◌, ◌*◌, ℕ, ℤ, pos, ◌*ℤ◌, ◌-ℤ◌, not, List, [], length, All, Option, Some, None, Result, Ok, Err, true}
+use Rattle.std.specs.Prelude.{◌≡◌, ◌≤◌, ◌<◌, ◌^◌, ◌*◌, ℕ, ℤ, pos, ◌*ℤ◌, ◌-ℤ◌, not, List, [], length, Option, Some, None, Result, Ok, Err}
 use Rattle.std.specs.List.{find}
 use Rattle.stated_order.specs.First.{HoldsLower, IsFirstLowerFailure}
 use Rattle.stated_order.specs.Steps.{IsOne, Then, Through}
@@ -8,7 +8,6 @@ use Rattle.whole_numbers.specs.Lists.{at}
 use Rattle.sym_blocks.specs.Tables.{entry_at, before}
 use Rattle.inverse_squares.specs.Quotients.{IsOverSquare}
 use Rattle.param_ids.specs.Plain.{PlainId}
-use Rattle.control_doc.specs.Control.{is_positive_and_short}
 use Rattle.control_doc.specs.Plain.{PlainDatum}
 use Rattle.control_doc.specs.declared.plans.Site.{Site}
 use Rattle.neq_stack.specs.Neqs.{PlainNeq}
@@ -70,10 +69,6 @@ AddsRow sites neq condition (Err (Range row col)) = IsFirstLowerFailure (length 
 -- interval that is too great, one condition after another.
 abbrev pub IsAddition : PlainDatum → PlainNeq → Result PlainNeq Fault → Type 0
 IsAddition datum neq = Then (λ r. r ≡ matched datum.sites neq.names) (λ all_matched. Through (AddsRow datum.sites) neq (conditions datum))
-
--- each standard deviation is positive and short
-abbrev pub HasPositive : PlainDatum → Type 0
-HasPositive datum = All (λ condition. is_positive_and_short condition.sigma ≡ true) (conditions datum)
 
 -- a datum gives one set of normal equations at most, or has one first cause, and never both
 abbrev pub OneAddition : Type 0

@@ -6,12 +6,13 @@ use Rattle.sys_model.specs.Scaling.{TimesPower}
 use Rattle.inverse_squares.specs.Quotients.{square, power_left}
 use Rattle.param_ids.specs.Plain.{PlainId}
 use Rattle.control_doc.specs.Plain.{PlainDatum}
+use Rattle.control_doc.specs.Valid.{HasPositiveSigmas}
 use Rattle.control_doc.specs.declared.plans.Site.{Site}
 use Rattle.neq_stack.specs.Neqs.{PlainNeq, IsSound}
 use Rattle.neq_stack.specs.Systems.{NamedSystem, LiesInNeq, IsSumOf, multiple}
 use Rattle.datum_rows.specs.Conditions.{Condition, conditions, reach}
 use Rattle.datum_rows.specs.Sites.{coefficient_in}
-use Rattle.datum_rows.specs.Additions.{IsAddition, HasPositive}
+use Rattle.datum_rows.specs.Additions.{IsAddition}
 
 -- The normal equations of one condition: its coefficients h at two names give h h' / s^2, over 10^14 for a rotation or a dilation, and
 -- the right side is zero.
@@ -29,7 +30,7 @@ pub record IsDatumSystem (datum : PlainDatum) (neq : PlainNeq) (S : NamedSystem)
 -- ---- what is promised of it
 -- a datum has a system
 abbrev pub DatumExists : Type 0
-DatumExists = (datum : PlainDatum) (neq : PlainNeq) → HasPositive datum → HasOne (IsDatumSystem datum neq)
+DatumExists = (datum : PlainDatum) (neq : PlainNeq) → HasPositiveSigmas datum → HasOne (IsDatumSystem datum neq)
 
 -- with a system also each multiple of it
 abbrev pub DatumMultiples : Type 0
@@ -38,5 +39,5 @@ DatumMultiples = (datum : PlainDatum) (neq : PlainNeq) (S : NamedSystem) (k : �
 -- where a system lies in normal equations, its sum with the datum's lies in those with the datum's rows
 abbrev pub DatumHolds : Type 0
 DatumHolds = (exponent : PlainId → ℤ) (datum : PlainDatum) (neq after : PlainNeq) (S D T : NamedSystem)
-    → IsSound neq → neq.scales ≡ map exponent neq.names → HasPositive datum → LiesInNeq exponent neq S
+    → IsSound neq → neq.scales ≡ map exponent neq.names → HasPositiveSigmas datum → LiesInNeq exponent neq S
     → IsAddition datum neq (Ok after) → IsDatumSystem datum neq D → IsSumOf (S ∷ D ∷ []) T → LiesInNeq exponent after T

@@ -2,10 +2,11 @@
 #![tactic(auto)]
 
 ghost use Rattle.std.specs.Prelude.{◌≡◌, ◌≤◌, ◌+◌, ◌*◌, ◌^◌, ℕ, Ok, Err, IfOk, IfErr};
+ghost use Rattle.control_doc.specs.Valid.{HasPositiveSigmas};
 ghost use Rattle.control_doc.specs.Views.{datum_view};
 ghost use Rattle.neq_stack.specs.ByName.{AreAtMost};
 ghost use Rattle.neq_stack.specs.Neqs.{IsSound, neq_view};
-ghost use Rattle.datum_rows.specs.Additions.{IsAddition, HasPositive, OneAddition};
+ghost use Rattle.datum_rows.specs.Additions.{IsAddition, OneAddition};
 ghost use Rattle.datum_rows.specs.Answers.{IfFault};
 ghost use Rattle.datum_rows.specs.Exact.{DatumHolds, DatumExists, DatumMultiples};
 
@@ -15,7 +16,7 @@ use std::alloc::Global;
 use thiserror::Error;
 
 /// Why the rows of a datum are not added.
-#[derive(Clone, Copy, Error)]
+#[derive(Clone, Copy, Debug, PartialEq, Eq, Error)]
 pub enum DatumError {
     /// Of this site, the first such of the datum, a coordinate is not there exactly once.
     #[error("a site without its coordinates")]
@@ -44,7 +45,7 @@ pub fn add_datum<const N: usize>(
 ) -> Result<(), DatumError>
     requires sound { IsSound (neq_view neq.old) }
     requires modest { AreAtMost (64 * 10 ^ 36) (neq_view neq.old) }
-    requires positive { HasPositive (datum_view datum.now) }
+    requires positive { HasPositiveSigmas (datum_view datum.now) }
     ensures added { IfOk result (λ done. IsAddition (datum_view datum.now) (neq_view neq.old) (Ok (neq_view neq.new))) }
     ensures refused { IfErr result (IfFault (λ fault. IsAddition (datum_view datum.now) (neq_view neq.old) (Err fault))) }
     ensures unchanged { IfErr result (λ _. neq_view neq.new ≡ neq_view neq.old) }
