@@ -1,7 +1,6 @@
 -- What the calls hold and answer.
 use Rattle.std.specs.Prelude.{◌≡◌, ℕ, List, Option}
-use Rattle.std.specs.BTreeMap.{get}
-use Rattle.std.specs.FinMap as finmap
+use Rattle.std.specs.BTreeMap.{BTreeMap, get}
 use Rattle.std.specs.Net.Reader.{map_or}
 use Rattle.decimal_e.specs.Decimals.{Decimal}
 use Rattle.param_ids.specs.Plain.{PlainId}
@@ -16,7 +15,7 @@ use Rattle.apriori_shift.specs.declared.shifting.ShiftError.TheVariants as shift
 
 -- a row for each of some names
 abbrev pub RowMap : Type 0
-RowMap = finmap.FinMap id_cmp Row
+RowMap = BTreeMap PlainId Row
 
 -- the map has of each name the row that comes first
 abbrev pub HasFirstRows : RowMap → List Row → Type 0

@@ -7,6 +7,7 @@ ghost use Rattle.decimal_e.specs.Fractions.{IsAtMost};
 ghost use Rattle.param_ids.specs.Order.{id_cmp};
 ghost use Rattle.snx_rows.specs.declared.rows.Row.{Row as PlainRow};
 ghost use Rattle.apriori_shift.specs.Common.{IsCommon};
+ghost use Rattle.apriori_shift.specs.declared.commons.CommonError.TheVariants.{Memory};
 ghost use Rattle.apriori_shift.specs.Answers.{HasFirstRows, IfClash};
 
 use param_ids::ParamId;
@@ -16,10 +17,7 @@ use std::collections::BTreeMap;
 use thiserror::Error;
 
 /// The common a priori values and units: of each name the row that counts.
-#[derive(Drop)]
-pub struct Apriori {
-    pub(crate) rows: BTreeMap<ParamId, Row>,
-}
+pub type Apriori = BTreeMap<ParamId, Row>;
 
 /// Why there are no common values.
 #[derive(Clone, Copy, Debug, PartialEq, Eq, Error)]
@@ -40,15 +38,6 @@ impl From<AllocError> for CommonError {
     }
 }
 
-impl Apriori {
-    /// The row of a name that counts, if there is one.
-    pub fn find(&self, id: &ParamId) -> Option<&Row>
-        ensures { option_map (λ row. row.now) result ≡ get id_cmp self.now.rows id.now }
-    {
-        self.rows.get(id)
-    }
-}
-
 /// The common a priori values of the rows of some files, where a file counts more than those after it: of each name the row that comes
 /// first.
 ///
@@ -56,7 +45,7 @@ impl Apriori {
 ///
 /// UnitClash, with the least name that has two units in any of the files; or want of memory.
 pub fn common(alloc: Global, files: &[&[Row]]) -> Result<Apriori, CommonError>
-    ensures common { IfOk result (λ base. (rows : List PlainRow) × IsCommon (flat_map (λ file. file.now) files.now) (Ok rows) × HasFirstRows base.rows rows) }
+    ensures common { IfOk result (λ base. (rows : List PlainRow) × IsCommon (flat_map (λ file. file.now) files.now) (Ok rows) × HasFirstRows base rows) }
     ensures clash { IfErr result (IfClash (λ id. IsCommon (flat_map (λ file. file.now) files.now) (Err id))) }
 {
     Err(CommonError::Memory)

@@ -40,10 +40,10 @@ pub fn shift<const N: usize>(
 ) -> Result<(), ShiftError>
     requires sound { IsSound (neq_view neq.old) }
     requires modest { AreAtMost (10 ^ 36) (neq_view neq.old) }
-    requires known { All (λ id. IsSome (get id_cmp base.now.rows id)) neq.old.names }
-    requires values { All (IsAtMost (10 ^ 12)) (map (common_value base.now.rows) neq.old.names) }
-    ensures shifted { IfOk result (λ done. IsShift (map (common_value base.now.rows) neq.old.names) (neq_view neq.old) (Ok (neq_view neq.new))) }
-    ensures range { IfErr result (IfRange (λ place. IsShift (map (common_value base.now.rows) neq.old.names) (neq_view neq.old) (Err place))) }
+    requires known { All (λ id. IsSome (get id_cmp base.now id)) neq.old.names }
+    requires values { All (IsAtMost (10 ^ 12)) (map (common_value base.now) neq.old.names) }
+    ensures shifted { IfOk result (λ done. IsShift (map (common_value base.now) neq.old.names) (neq_view neq.old) (Ok (neq_view neq.new))) }
+    ensures range { IfErr result (IfRange (λ place. IsShift (map (common_value base.now) neq.old.names) (neq_view neq.old) (Err place))) }
     ensures unchanged { IfErr result (λ _. neq_view neq.new ≡ neq_view neq.old) }
     ensures sound { IsSound (neq_view neq.new) }
     ensures modest { (most : ℕ) → AreAtMost most (neq_view neq.old) → AreAtMost (most + 10 ^ 34) (neq_view neq.new) }
