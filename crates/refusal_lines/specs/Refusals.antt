@@ -1,6 +1,8 @@
 -- Refusals: the status and the line of each.
-use Rattle.std.specs.Prelude.{◌≡◌, ◌⊎◌, ◌++◌, ℕ, List, codes}
+use Rattle.std.specs.Prelude.{◌≡◌, ◌⊎◌, ◌++◌, ◌∷◌, ℕ, List, [], codes}
+use Rattle.std.specs.List.{join_with_byte}
 use Rattle.std.specs.Fmt.{decimal}
+use Rattle.blanks.specs.Blanks.{trimmed}
 use Rattle.snx_lines.specs.declared.blocks.FrameCause.{FrameCause}
 use Rattle.snx_lines.specs.declared.blocks.FrameCause.TheVariants as frames
 use Rattle.param_ids.specs.Plain.{PlainId}
@@ -10,10 +12,11 @@ use Rattle.snx_rows.specs.declared.causes.Cause.TheVariants as lines
 use Rattle.snx_blocks.specs.Sections.{section_name}
 use Rattle.control_doc.specs.declared.faults.ControlCause.{ControlCause}
 use Rattle.control_doc.specs.declared.faults.ControlCause.TheVariants as controls
+use Rattle.control_doc.specs.declared.plans.Site.{Site}
 use Rattle.refusal_lines.specs.declared.refusal.Scope.{Scope}
 use Rattle.refusal_lines.specs.declared.refusal.Scope.TheVariants.{File, Group, Stack}
 use Rattle.refusal_lines.specs.declared.refusal.Refusal.{Refusal}
-use Rattle.refusal_lines.specs.declared.refusal.Refusal.TheVariants.{Words, Control, NoFile, TooLong, Line, Block, Unmatched, Empty, TooMany, Unbuilt, Memory, Desk, Range, Pivot, Condition, Residual, Defect}
+use Rattle.refusal_lines.specs.declared.refusal.Refusal.TheVariants.{Words, Control, NoFile, TooLong, Line, Block, UnitClash, Unmatched, UnmatchedSite, Empty, TooMany, Unbuilt, Memory, Desk, Range, Pivot, Condition, Residual, Defect}
 
 -- the statuses that a run answers
 abbrev pub IsStatus : ℕ → Type 0
@@ -28,7 +31,9 @@ status_of (NoFile name) = 3
 status_of (TooLong name) = 3
 status_of (Line name fault) = 3
 status_of (Block place block) = 3
+status_of (UnitClash id) = 3
 status_of (Unmatched place id) = 3
+status_of (UnmatchedSite site) = 3
 status_of (Empty place) = 3
 status_of (TooMany place count) = 3
 status_of (Unbuilt name) = 3
@@ -88,6 +93,10 @@ control_text cause path = codes "control " ++ (control_cause_text cause ++ (code
 abbrev pub at_unknown : List ℕ → Scope → PlainId → List ℕ
 at_unknown what place id = what ++ (place_text place ++ (codes " " ++ id_text id))
 
+-- a site of a datum: its texts without blanks, joined by `/`
+abbrev pub site_text : Site → List ℕ
+site_text site = join_with_byte 47 (trimmed site.code ∷ trimmed site.point ∷ trimmed site.soln ∷ [])
+
 -- what a refusal says
 abbrev pub text_of : Refusal → List ℕ
 text_of Words = codes "words"
@@ -96,7 +105,9 @@ text_of (NoFile name) = codes "no file " ++ name
 text_of (TooLong name) = codes "too long " ++ name
 text_of (Line name fault) = name ++ (codes ":" ++ (decimal fault.line ++ (codes " " ++ cause_text fault.cause)))
 text_of (Block place block) = codes "block " ++ (place_text place ++ (codes " " ++ section_name block))
+text_of (UnitClash id) = codes "unit " ++ id_text id
 text_of (Unmatched place id) = at_unknown (codes "unmatched ") place id
+text_of (UnmatchedSite site) = codes "unmatched site " ++ site_text site
 text_of (Empty place) = codes "empty " ++ place_text place
 text_of (TooMany place count) = codes "too many " ++ (place_text place ++ (codes " " ++ decimal count))
 text_of (Unbuilt name) = codes "unbuilt " ++ name

@@ -3,11 +3,12 @@ ghost use Rattle.std.specs.Prelude.{◌≡◌, ◌≢◌, ◌++◌, IfOk, codes}
 ghost use Rattle.std.specs.Fmt.{decimal};
 ghost use Rattle.param_ids.specs.Ids.{id_text};
 ghost use Rattle.snx_blocks.specs.Sections.{section_name};
-ghost use Rattle.refusal_lines.specs.Refusals.{IsStatus, status_of, place_text, frame_text, cause_text, control_cause_text, control_text, at_unknown, text_of, line_of};
+ghost use Rattle.refusal_lines.specs.Refusals.{IsStatus, status_of, place_text, frame_text, cause_text, control_cause_text, control_text, at_unknown, site_text, text_of, line_of};
 ghost use Rattle.refusal_lines.specs.declared.refusal.Refusal.TheVariants.{Memory};
 
 use crate::name::Name;
-use control_doc::ControlCause;
+use blanks::trim;
+use control_doc::{ControlCause, Site};
 use param_ids::{ParamId, push_id};
 use snx_blocks::{Cause, LineFault, Section};
 use snx_lines::FrameCause;
@@ -50,10 +51,18 @@ pub enum Refusal {
         place: Scope,
         block: Section,
     },
+    /// The a priori values have two units for this name, the least of those that have.
+    UnitClash {
+        id: ParamId,
+    },
     /// The right side has a row of this name, the first of those that have no a priori value.
     Unmatched {
         place: Scope,
         id: ParamId,
+    },
+    /// A coordinate of this site of the datum, the first such, is not there exactly once.
+    UnmatchedSite {
+        site: Site,
     },
     /// The right side has no row.
     Empty {
@@ -129,7 +138,9 @@ pub fn status(refusal: &Refusal) -> u8
         | Refusal::TooLong { .. }
         | Refusal::Line { .. }
         | Refusal::Block { .. }
+        | Refusal::UnitClash { .. }
         | Refusal::Unmatched { .. }
+        | Refusal::UnmatchedSite { .. }
         | Refusal::Empty { .. }
         | Refusal::TooMany { .. }
         | Refusal::Unbuilt { .. } => 3,
@@ -297,6 +308,35 @@ fn at_unknown(
     Ok(text)
 }
 
+// A parameter with two units.
+fn unit_text(alloc: Global, id: &ParamId) -> Result<Vec<u8>, AllocError>
+    ensures { IfOk result (λ text. text.items ≡ codes "unit " ++ id_text id.now) }
+{
+    let mut text = Vec::from_slice(alloc, b"unit ")?;
+    push_id(&mut text, id)?;
+    Ok(text)
+}
+
+// A site of a datum.
+fn site_text(alloc: Global, site: &Site) -> Result<Vec<u8>, AllocError>
+    ensures { IfOk result (λ text. text.items ≡ site_text site.now) }
+{
+    let mut text = Vec::from_slice(alloc, trim(&site.code))?;
+    text.push(b'/')?;
+    text.extend_from_slice(trim(&site.point))?;
+    text.push(b'/')?;
+    text.extend_from_slice(trim(&site.soln))?;
+    Ok(text)
+}
+
+// A site of a datum without its coordinates.
+fn unmatched_site_text(alloc: Global, site: &Site) -> Result<Vec<u8>, AllocError>
+    ensures { IfOk result (λ text. text.items ≡ codes "unmatched site " ++ site_text site.now) }
+{
+    let site = site_text(alloc, site)?;
+    joined(alloc, b"unmatched site ", &site)
+}
+
 // A range, with the names of its row and its column.
 fn range_text(
     alloc: Global,
@@ -338,7 +378,9 @@ fn text(alloc: Global, refusal: &Refusal) -> Result<Vec<u8>, AllocError>
         Refusal::TooLong { name } => joined(alloc, b"too long ", name.as_bytes()),
         Refusal::Line { name, fault } => line_text(alloc, name, *fault),
         Refusal::Block { place, block } => block_text(alloc, place, *block),
+        Refusal::UnitClash { id } => unit_text(alloc, id),
         Refusal::Unmatched { place, id } => at_unknown(alloc, b"unmatched ", place, id),
+        Refusal::UnmatchedSite { site } => unmatched_site_text(alloc, site),
         Refusal::Empty { place } => empty_text(alloc, place),
         Refusal::TooMany { place, count } => too_many_text(alloc, place, *count),
         Refusal::Unbuilt { name } => joined(alloc, b"unbuilt ", name.as_bytes()),

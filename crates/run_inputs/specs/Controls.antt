@@ -1,12 +1,12 @@
 -- The control file of a command: what it says, and what is tested of it before any of its files is read.
-use Rattle.std.specs.Prelude.{◌≡◌, ◌||◌, ℕ, Bool, List, [], Option, Some, None, Result, Ok, Err}
+use Rattle.std.specs.Prelude.{◌≡◌, ◌∷◌, ◌||◌, ℕ, Bool, List, [], Option, Some, None, Result, Ok, Err}
 use Rattle.std.specs.List.{find}
 use Rattle.std.specs.Str.{bytes_eq}
 use Rattle.stated_order.specs.Steps.{Then, Renamed}
 use Rattle.desk_io.specs.Content.{File}
 use Rattle.control_doc.specs.Control.{IsRead}
 use Rattle.control_doc.specs.Faults.{PlainFault}
-use Rattle.control_doc.specs.Plain.{PlainPlan, PlainDatum, PlainReduction, PlainControl}
+use Rattle.control_doc.specs.Plain.{PlainPlan, PlainReduction, PlainControl}
 use Rattle.control_doc.specs.declared.faults.ControlCause.TheVariants.{SameName}
 use Rattle.refusal_lines.specs.declared.refusal.Refusal.{Refusal}
 use Rattle.refusal_lines.specs.declared.refusal.Refusal.TheVariants.{Control, Unbuilt}
@@ -33,13 +33,13 @@ apart_from (Some plan) = Err (Control SameName plan.name)
 abbrev pub apart : CombinedFiles → PlainControl → Result (Unit {0}) Refusal
 apart names control = apart_from (find (is_named names) control.files)
 
--- a datum and reductions are not built yet
-abbrev pub built_of : List ℕ → Option PlainDatum → List PlainReduction → Result (Unit {0}) Refusal
-built_of name None [] = Ok tt
-built_of name datum reductions = Err (Unbuilt name)
+-- reductions are not built yet
+abbrev pub built_of : List ℕ → List PlainReduction → Result (Unit {0}) Refusal
+built_of name [] = Ok tt
+built_of name (first ∷ rest) = Err (Unbuilt name)
 
 abbrev pub built : CombinedFiles → PlainControl → Result (Unit {0}) Refusal
-built names control = built_of names.control control.datum control.reductions
+built names control = built_of names.control control.reductions
 
 -- what the text of a control file says; or its first fault, or why no run is made of it
 abbrev pub SaysRun : CombinedFiles → List ℕ → Result PlainControl Refusal → Type 0

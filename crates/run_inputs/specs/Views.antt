@@ -1,8 +1,7 @@
 -- What the code holds, without where it lies in memory; and what is known of its answers.
-use Rattle.std.specs.Prelude.{◌≡◌, ◌≢◌, ◌≤◌, ℕ, Bool, true, false, List, [], Option, None, Result, Ok, Err}
+use Rattle.std.specs.Prelude.{◌≡◌, ◌≢◌, ◌≤◌, ℕ, Result, Ok, Err}
 use Rattle.desk_io.specs.Desk.{Rose}
 use Rattle.snx_blocks.specs.Views.{doc_view}
-use Rattle.control_doc.specs.Plain.{PlainDatum, PlainReduction, PlainControl}
 use Rattle.control_doc.specs.Views.{plan_view}
 use Rattle.refusal_lines.specs.Refusals.{status_of}
 use Rattle.refusal_lines.specs.declared.refusal.Refusal.{Refusal}
@@ -41,13 +40,3 @@ pub record HasStatusCause (before now status : ℕ) : Type 0 where
   pub later : before ≤ now
   pub fault : status ≡ 5 → Rose before now
   pub unchanged : status ≢ 4 → status ≢ 5 → now ≡ before
-
--- ---- for private functions
-
--- a control has a datum or a reduction
-abbrev pub more_than_files : Option PlainDatum → List PlainReduction → Bool
-more_than_files None [] = false
-more_than_files datum reductions = true
-
-abbrev pub asks_more : PlainControl → Bool
-asks_more control = more_than_files control.datum control.reductions

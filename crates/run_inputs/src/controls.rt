@@ -8,7 +8,7 @@ ghost use Rattle.control_doc.specs.Valid.{IsValidControl};
 ghost use Rattle.control_doc.specs.Views.{control_view, plan_view};
 ghost use Rattle.refusal_lines.specs.Refusals.{status_of};
 ghost use Rattle.run_inputs.specs.Controls.{ReadsControl, SaysControl, SaysRun, is_named, apart_from, built_of};
-ghost use Rattle.run_inputs.specs.Views.{combined_files, status_in, IfTold, HasStatusCause, asks_more};
+ghost use Rattle.run_inputs.specs.Views.{combined_files, status_in, IfTold, HasStatusCause};
 
 use crate::files::{named, read_file};
 use crate::words::CombineNames;
@@ -55,25 +55,18 @@ fn kept_apart(alloc: Global, names: &CombineNames<'_>, files: &[FilePlan]) -> Re
     }
 }
 
-// Whether a control asks for a datum or a reduction.
-fn asks_more(control: &Control) -> bool
-    ensures { result ≡ asks_more (control_view control.now) }
-{
-    control.datum.is_some() || control.reductions.len() != 0
-}
-
 // Refuses a control that asks for what is not built.
 fn all_built(alloc: Global, from: &str, control: &Control) -> Result<(), Refusal>
-    ensures built { IfOk result (λ _. Ok tt ≡ built_of from.now (control_view control.now).datum (control_view control.now).reductions) }
-    ensures refused { IfErr result (IfTold (λ refusal. Err refusal ≡ built_of from.now (control_view control.now).datum (control_view control.now).reductions)) }
+    ensures built { IfOk result (λ _. Ok tt ≡ built_of from.now (control_view control.now).reductions) }
+    ensures refused { IfErr result (IfTold (λ refusal. Err refusal ≡ built_of from.now (control_view control.now).reductions)) }
     ensures no_fault { IfErr result (λ refusal. status_of refusal ≢ 5) }
 {
-    if asks_more(control) {
+    if control.reductions.is_empty() {
+        Ok(())
+    } else {
         Err(Refusal::Unbuilt {
             name: named(alloc, from)?,
         })
-    } else {
-        Ok(())
     }
 }
 
@@ -112,7 +105,7 @@ fn run_said(alloc: Global, names: &CombineNames<'_>, text: &[u8]) -> Result<Cont
 /// # Errors
 ///
 /// NoFile, TooLong past 1 MiB, Control with the first fault; Control with SameName for the first listed file that is also the
-/// control file or an output; Unbuilt where it has a datum or a reduction; want of memory, or a fault of the desk.
+/// control file or an output; Unbuilt where it has a reduction; want of memory, or a fault of the desk.
 pub fn read_control_file<D: Desk>(
     alloc: Global,
     names: &CombineNames<'_>,
