@@ -1,13 +1,39 @@
 //! Whole numbers over the square of a decimal, as weights are made of standard deviations.
 #![tactic(auto)]
 
-ghost use Rattle.std.specs.Prelude.{◌≤◌, ◌<◌, ◌^◌, pos, negsuc, ◌≤ℤ◌, ◌<ℤ◌, unsigned_abs, SomeIff};
+ghost use Rattle.std.specs.Prelude.{◌≤◌, ◌<◌, ◌≡◌, ◌^◌, pos, negsuc, ◌≤ℤ◌, ◌<ℤ◌, unsigned_abs, SomeIff};
 ghost use Rattle.whole_numbers.specs.Intervals.{Interval, size};
-ghost use Rattle.inverse_squares.specs.Quotients.{IsOverSquare, OneOverSquare, OverSquareExists, OverSquareHolds};
+ghost use Rattle.inverse_squares.specs.Quotients.{IsOverSquare, OneOverSquare, OverSquareExists, OverSquareHolds, square, power_left};
 ghost use Rattle.inverse_squares.specs.Worked.{AreWorked};
 
+mod division;
+
 use decimal_e::Dec;
+use division::times_tens;
 use interval_word::Iv;
+use whole_numbers::product;
+
+/// The square of the whole number in front of the power of ten.
+fn square_of(s: &Dec) -> i128
+    requires positive { pos 0 <ℤ s.now.mant }
+    requires short { unsigned_abs s.now.mant < 10 ^ 18 }
+    ensures { result ≡ pos (square s.now) }
+{
+    let mant = s.mant();
+    product(mant, mant)
+}
+
+/// The power of ten that is left for `h` over that square.
+fn power_for(s: &Dec, z: i32) -> i32
+    requires low { negsuc 99 ≤ℤ z }
+    requires high { z ≤ℤ pos 100 }
+    ensures value { result ≡ power_left s.now z }
+    ensures low { negsuc 1999 ≤ℤ result }
+    ensures high { result ≤ℤ pos 2000 }
+{
+    let exp = s.exp();
+    z - exp - exp
+}
 
 /// The interval of `h * 10^z / s^2`, rounded outward, and None exactly where an end passes `10^37` in size.
 pub fn over_square(h: i128, s: &Dec, z: i32) -> Option<Iv>
@@ -18,7 +44,7 @@ pub fn over_square(h: i128, s: &Dec, z: i32) -> Option<Iv>
     requires high { z ≤ℤ pos 100 }
     ensures { (w : Interval) × IsOverSquare h s.now z w × SomeIff result (size w ≤ 10 ^ 37) w }
 {
-    None
+    times_tens(h, square_of(s), power_for(s, z))
 }
 
 /// There is one interval over a square and no other, and it holds the exact value.

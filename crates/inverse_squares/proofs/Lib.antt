@@ -1,0 +1,5 @@
+pub mod Alone
+pub mod HoldLaws
+pub mod QuotientLaws
+pub mod TensLaws
+pub mod WorkedLaws
