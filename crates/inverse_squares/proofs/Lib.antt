@@ -1,4 +1,5 @@
 pub mod Alone
+pub mod AnswerLaws
 pub mod HoldLaws
 pub mod QuotientLaws
 pub mod TensLaws

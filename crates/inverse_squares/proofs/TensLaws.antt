@@ -1,10 +1,10 @@
 -- The greatest number of tens that a whole number may be multiplied by within 10^37.
-use Rattle.std.proofs.Common.{◌≡◌, ◌≢◌, ℕ, zero, suc, ℤ, pos, ◌*ℤ◌, ◌+◌, ◌*◌, ◌≤◌, ◌<◌, ◌^◌, unsigned_abs, refl, arith, rules}
+use Rattle.std.proofs.Common.{◌≡◌, ◌≢◌, ℕ, zero, suc, ℤ, pos, ◌+◌, ◌*◌, ◌≤◌, ◌<◌, ◌^◌, unsigned_abs, refl, ap, arith}
 use Rattle.std.proofs.lemmas.Int.{ints}
+use Rattle.std.proofs.lemmas.Nat.{pow-add}
 use Rattle.std.proofs.Math.Decide.{dec_lt}
 use Rattle.std.proofs.Math.Nat.{mul-le-mul, mul-le-mul_left}
-use Rattle.whole_numbers.proofs.Powers.{ten_le, ten_pow_above}
-use Rattle.stated_order.proofs.FirstLaws.{neither_less}
+use Rattle.whole_numbers.proofs.Powers.{ten_le}
 use Rattle.inverse_squares.specs.Quotients.{AreTensFor}
 
 pub one_tens : (h : ℤ) (u a b : ℕ) → AreTensFor h u a → AreTensFor h u b → a ≡ b
@@ -56,3 +56,14 @@ few_tens h tens some w =
           absurd (omega (arith, p))
       | no n ↦ omega arith
     ]
+
+-- ---- what the loop over tens shows
+pub tens_more : (raised x tens : ℕ) → raised ≡ x * 10 ^ tens → raised * 10 ≡ x * 10 ^ (tens + 1)
+tens_more raised x tens e = let p = ap (λ y. x * y) (pow-add 10 tens 1) in omega (arith, p, e)
+
+pub tens_end : (h : ℤ) (most tens raised : ℕ) → raised ≡ unsigned_abs h * 10 ^ tens → tens ≤ most → raised ≤ 10 ^ 37 → 10 ^ 36 < raised → AreTensFor h most tens
+tens_end h most tens raised e few within past = record {
+  few = few;
+  within = rw e at within;
+  most = λ more _ w. no_more (unsigned_abs h) tens more (rw e at past) w;
+}
