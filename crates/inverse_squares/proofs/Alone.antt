@@ -1,5 +1,5 @@
 -- There is one interval over a square.
-use Rattle.std.proofs.Common.{◌≡◌, ℕ, ℤ, pos, negsuc, suc, ◌*ℤ◌, ◌-◌, ◌*◌, ◌≤◌, ◌^◌, unsigned_abs, refl, ap, sym, ◌∙◌}
+use Rattle.std.proofs.Common.{ℕ, ℤ, pos, negsuc, suc, ◌*ℤ◌, ◌-◌, ◌*◌, ◌≤◌, ◌^◌, unsigned_abs, refl, ap, sym, ◌∙◌}
 use Rattle.stated_order.specs.Steps.{IsOne, HasOne}
 use Rattle.whole_numbers.specs.Intervals.{Interval}
 use Rattle.whole_numbers.specs.Scaling.{interval_scale10}

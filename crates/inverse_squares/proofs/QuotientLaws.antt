@@ -1,8 +1,7 @@
 -- The whole numbers next to a quotient.
-use Rattle.std.proofs.Common.{◌≡◌, ℕ, suc, ℤ, pos, negsuc, ◌*ℤ◌, ◌≤ℤ◌, ◌<ℤ◌, ◌*◌, ◌≤◌, ◌<◌, ◌^◌, unsigned_abs, refl, ap, ◌∙◌, subst, sym, arith}
+use Rattle.std.proofs.Common.{◌≡◌, ℕ, ℤ, pos, negsuc, ◌≤ℤ◌, ◌<ℤ◌, ◌*◌, ◌≤◌, ◌<◌, ◌^◌, unsigned_abs, refl, arith}
 use Rattle.std.proofs.lemmas.Int.{ints, to_z-of_z, unsigned_abs-mul}
 use Rattle.std.proofs.Math.Nat.{mul-pos}
-use Rattle.whole_numbers.specs.Intervals.{Interval}
 use Rattle.whole_numbers.specs.Quotients.{floor_over, ceil_over}
 use Rattle.whole_numbers.specs.Scaling.{floor_scaled}
 use Rattle.whole_numbers.proofs.Division.{floor_le_ceil, floor_over_is, ceil_over_is}

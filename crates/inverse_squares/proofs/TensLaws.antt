@@ -1,5 +1,5 @@
 -- The greatest number of tens that a whole number may be multiplied by within 10^37.
-use Rattle.std.proofs.Common.{◌≡◌, ◌≢◌, ℕ, zero, suc, ℤ, pos, ◌+◌, ◌*◌, ◌≤◌, ◌<◌, ◌^◌, unsigned_abs, refl, ap, arith}
+use Rattle.std.proofs.Common.{◌≡◌, ◌≢◌, ℕ, zero, suc, ℤ, pos, ◌+◌, ◌*◌, ◌≤◌, ◌<◌, ◌^◌, unsigned_abs, ap, arith}
 use Rattle.std.proofs.lemmas.Int.{ints}
 use Rattle.std.proofs.lemmas.Nat.{pow-add}
 use Rattle.std.proofs.Math.Decide.{dec_lt}
@@ -18,12 +18,14 @@ some_tens h zero few = (0, record { few = omega arith; within = omega arith; mos
 some_tens h (suc u) few =
     elim (dec_lt (10 ^ 37) (unsigned_abs h * 10 ^ suc u)) [
       | yes g ↦
-          let r = some_tens h u few in
-          (r.0, record {
-            few = let l = r.1.few in omega arith;
-            within = r.1.within;
-            most = λ more l w. r.1.most more (below u more g l w) w;
-          })
+          let r = some_tens h u few in (
+            r.0,
+            record {
+              few = let l = r.1.few in omega arith;
+              within = r.1.within;
+              most = λ more l w. r.1.most more (below u more g l w) w;
+            },
+          )
       | no n ↦ (suc u, record { few = omega arith; within = omega arith; most = λ more l _. l })
     ]
   where

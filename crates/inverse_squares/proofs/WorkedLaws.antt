@@ -1,7 +1,7 @@
 -- Quotients worked by hand.
-use Rattle.std.proofs.Common.{◌≡◌, ℕ, ℤ, pos, negsuc, ◌*◌, ◌+◌, ◌/◌, ◌^◌, ◌≤◌, ◌<◌, refl, ap, sym, subst, arith}
-use Rattle.whole_numbers.specs.Intervals.{Interval, point_interval, size}
-use Rattle.inverse_squares.specs.Quotients.{AreTensFor, IsOverSquare}
+use Rattle.std.proofs.Common.{pos, negsuc, ◌^◌, ◌<◌, refl, subst, arith}
+use Rattle.whole_numbers.specs.Intervals.{point_interval, size}
+use Rattle.inverse_squares.specs.Quotients.{IsOverSquare}
 use Rattle.inverse_squares.specs.Worked.{AreWorked, decimal}
 use Rattle.inverse_squares.proofs.Alone.{one_over_square}
 use Rattle.inverse_squares.proofs.TensLaws.{no_more}

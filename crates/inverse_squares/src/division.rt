@@ -7,10 +7,10 @@ ghost use Rattle.inverse_squares.specs.Quotients.{quotient, AreTensFor, IsTimesT
 use interval_word::Iv;
 use whole_numbers::{ceil_div, floor_div, product, scale_floor, ten_to};
 
-/// A number of at most this size has ten times itself within 10^37.
+/// Ten times a number is within 10^37 exactly where the number is at most this.
 const TENTH: u128 = 1_000_000_000_000_000_000_000_000_000_000_000_000;
 
-/// The interval with these ends.
+/// The interval with these ends, which are in order: it is never None.
 fn between(lo: i128, hi: i128) -> Option<Iv>
     requires { lo ≤ℤ hi }
     ensures { result ≡ Some (record { lo = lo; hi = hi }) }
@@ -18,7 +18,7 @@ fn between(lo: i128, hi: i128) -> Option<Iv>
     Iv::new(lo, hi)
 }
 
-/// The whole numbers next to `x / den`, below it and above it.
+/// The whole numbers next to `x / den`, below it and above it: never None.
 #[tactic(auto, using(crate::proofs::QuotientLaws::next_rules))]
 fn next_to(x: i128, den: i128) -> Option<Iv>
     requires { pos 0 <ℤ den }
@@ -27,7 +27,7 @@ fn next_to(x: i128, den: i128) -> Option<Iv>
     between(floor_div(x, den), ceil_div(x, den))
 }
 
-/// The whole numbers next to `h / den`, for each `den` above `h` in size.
+/// The whole numbers next to `h / den`, for each `den` above `h` in size: never None.
 fn next_to_small(h: i128) -> Option<Iv>
     ensures { (den : ℕ) → unsigned_abs h < den → result ≡ Some (quotient h den) }
 {
@@ -40,7 +40,7 @@ fn next_to_small(h: i128) -> Option<Iv>
     }
 }
 
-/// The whole numbers next to `h / (den * 10^k)`.
+/// The whole numbers next to `h / (den * 10^k)`, also where that denominator passes 128 bits: never None.
 fn divided(h: i128, den: i128, k: i32) -> Option<Iv>
     requires some { pos 0 <ℤ den }
     requires few { unsigned_abs h ≤ 10 ^ 24 }
@@ -67,7 +67,8 @@ fn tens_for(h: i128, most: u32) -> u32
     tens
 }
 
-/// The interval of `h / den * 10^power`, and None exactly where an end passes `10^37` in size.
+/// The interval of `h / den * 10^power`: as many tens as fit are multiplied by before the division, the others after it.
+/// None exactly where an end passes 10^37 in size.
 fn multiplied(h: i128, den: i128, power: u32) -> Option<Iv>
     requires some { pos 0 <ℤ den }
     requires few { unsigned_abs h ≤ 10 ^ 24 }
@@ -82,7 +83,7 @@ fn multiplied(h: i128, den: i128, power: u32) -> Option<Iv>
     whole.scale10((power - tens) as i32)
 }
 
-/// The interval of `h / den * 10^power`, and None exactly where an end passes `10^37` in size.
+/// The interval of `h / den * 10^power` for a power of either sign, and None exactly where an end passes 10^37 in size.
 pub(crate) fn times_tens(h: i128, den: i128, power: i32) -> Option<Iv>
     requires some { pos 0 <ℤ den }
     requires few { unsigned_abs h ≤ 10 ^ 24 }

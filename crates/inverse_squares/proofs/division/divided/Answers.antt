@@ -1,6 +1,6 @@
 use Rattle.std.proofs.Common.{◌*◌, ◌^◌, unsigned_abs, FitsSigned, arith}
 use Rattle.std.specs.Int.{w128, w32}
-use Rattle.std.proofs.lemmas.Int.{ints, to_z-of_z}
+use Rattle.std.proofs.lemmas.Int.{to_z-of_z}
 use Rattle.inverse_squares.proofs.QuotientLaws.{raised_some, raised_past}
 use Rattle.inverse_squares.proofs.division.divided.Goals as goal
 

@@ -1,8 +1,7 @@
-use Rattle.std.proofs.Common.{◌≡◌, Some, pos, ◌*ℤ◌, ◌^◌, unsigned_abs, FitsSigned, arith, rules, sym, ◌∙◌}
-use Rattle.std.specs.Int.{w128, w32}
+use Rattle.std.proofs.Common.{FitsSigned, arith, rules, sym, ◌∙◌}
+use Rattle.std.specs.Int.{w128}
 use Rattle.std.proofs.lemmas.Int.{ints, to_z-of_z}
 use Rattle.std.proofs.lemmas.Option.{same_Some}
-use Rattle.inverse_squares.specs.Quotients.{quotient}
 use Rattle.inverse_squares.proofs.TensLaws.{few_tens}
 use Rattle.inverse_squares.proofs.AnswerLaws.{answers_above}
 use Rattle.inverse_squares.proofs.division.multiplied.Goals as goal

@@ -1,5 +1,5 @@
 use Rattle.std.proofs.Common.{FitsSigned, arith}
-use Rattle.std.specs.Int.{w128, w32}
+use Rattle.std.specs.Int.{w128}
 use Rattle.std.proofs.lemmas.Int.{ints, to_z-of_z}
 use Rattle.inverse_squares.proofs.AnswerLaws.{answers_below}
 use Rattle.inverse_squares.proofs.division.times_tens.Goals as goal
