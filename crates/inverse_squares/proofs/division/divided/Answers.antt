@@ -1,6 +1,6 @@
 use Rattle.std.proofs.Common.{◌*◌, ◌^◌, unsigned_abs, FitsSigned, arith}
 use Rattle.std.specs.Int.{w128, w32}
-use Rattle.std.proofs.lemmas.Int.{to_z-of_z}
+use Rattle.std.proofs.lemmas.Int.{ints, to_z-of_z}
 use Rattle.inverse_squares.proofs.QuotientLaws.{raised_some, raised_past}
 use Rattle.inverse_squares.proofs.division.divided.Goals as goal
 
@@ -14,4 +14,4 @@ returns-in-None c =
     let k : FitsSigned w32 c.args.k = c.ranges.k in
     let past = raised_past c.args.den c.args.k c.requires.tens (simp to_z-of_z at c.in-None.ensures) in
     let next = simp to_z-of_z at c.next_to_small.ensures in
-    next (unsigned_abs c.args.den * 10 ^ unsigned_abs c.args.k) (omega (arith, past))
+    next (unsigned_abs c.args.den * 10 ^ unsigned_abs c.args.k) (omega (arith, ints, past))
