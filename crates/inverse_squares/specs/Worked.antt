@@ -1,5 +1,5 @@
 -- Quotients worked by hand.
-use Rattle.std.specs.Prelude.{◌≡◌, ◌<◌, ℤ, pos, negsuc, ◌*◌, ◌+◌, ◌^◌, ◌/◌}
+use Rattle.std.specs.Prelude.{◌<◌, ℤ, pos, negsuc, ◌*◌, ◌+◌, ◌^◌, ◌/◌}
 use Rattle.whole_numbers.specs.Intervals.{Interval, point_interval, size}
 use Rattle.decimal_e.specs.Decimals.{Decimal}
 use Rattle.inverse_squares.specs.Quotients.{IsOverSquare}
