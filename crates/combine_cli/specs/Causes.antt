@@ -1,7 +1,11 @@
--- The causes of the steps as refusals: why a file has no normal equations, and why the rules refuse a stack.
+-- The causes of the steps as refusals: why a file has no normal equations at the common values, why a stack gets no datum, and why the
+-- rules refuse it.
 use Rattle.std.specs.Prelude.{ℕ, List}
 use Rattle.param_ids.specs.Plain.{PlainId}
 use Rattle.neq_stack.specs.Systems.{name_at}
+use Rattle.difference_products.specs.Products.{Place}
+use Rattle.datum_rows.specs.Additions.{Fault}
+use Rattle.datum_rows.specs.Additions as datum
 use Rattle.snx_blocks.specs.declared.sections.Section.TheVariants.{Apriori}
 use Rattle.control_doc.specs.declared.plans.Form.{Form}
 use Rattle.control_doc.specs.declared.plans.Form.TheVariants as forms
@@ -11,7 +15,7 @@ use Rattle.stack_rules.specs.declared.StackError.{StackError}
 use Rattle.stack_rules.specs.declared.StackError.TheVariants as rules
 use Rattle.refusal_lines.specs.declared.refusal.Scope.TheVariants.{File, Stack}
 use Rattle.refusal_lines.specs.declared.refusal.Refusal.{Refusal}
-use Rattle.refusal_lines.specs.declared.refusal.Refusal.TheVariants.{Block, Unmatched, Empty, Unbuilt, Memory, Range, Pivot, Condition, Residual, Defect}
+use Rattle.refusal_lines.specs.declared.refusal.Refusal.TheVariants.{Block, Unmatched, UnmatchedSite, Empty, Unbuilt, Memory, Range, Pivot, Condition, Residual, Defect}
 
 -- The refusal of a file whose normal equations are not recovered. Where a file need not be taken from its normal equations, it has a
 -- priori values and lacks the right side or the matrix of normal equations, its solution would be taken, which is not built yet.
@@ -22,6 +26,15 @@ refusal_of_recovery form name (recovery.MissingBlock block) = Unbuilt name
 refusal_of_recovery form name (recovery.Unmatched id) = Unmatched (File name) id
 refusal_of_recovery form name recovery.Empty = Empty (File name)
 refusal_of_recovery form name (recovery.Range row col) = Range (File name) row col
+
+-- the refusal of a file of this name, whose normal equations with these names are not brought to the common a priori values
+abbrev pub refusal_of_shift : List ℕ → List PlainId → Place → Refusal
+refusal_of_shift name names place = Range (File name) (name_at names place.row) (name_at names place.col)
+
+-- the refusal of a stack of these names, to which the rows of the datum are not added
+abbrev pub refusal_of_datum : List PlainId → Fault → Refusal
+refusal_of_datum names (datum.Unmatched site) = UnmatchedSite site
+refusal_of_datum names (datum.Range row col) = Range Stack (name_at names row) (name_at names col)
 
 -- the refusal of a stack of these names for a cause of the rules
 abbrev pub refusal_of_rules : List PlainId → StackError → Refusal

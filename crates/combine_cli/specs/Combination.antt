@@ -1,7 +1,8 @@
 -- From files that were read to the texts of their combination, as steps in their order: one a priori value and one unit for each
--- name, the normal equations of each file, the stacks of the groups, the whole stack, the rules.
-use Rattle.std.specs.Prelude.{◌≡◌, ◌≢◌, ◌⊎◌, ◌↔◌, ℕ, Bool, true, false, ◌&&◌, ◌==◌, List, [], ◌∷◌, map, Option, Some, None, Result, Ok, Err, Contains}
-use Rattle.std.specs.List.{Any, filter}
+-- name, the normal equations of each file brought to these values, the stacks of the groups, the whole stack, the rows of the datum, the
+-- rules.
+use Rattle.std.specs.Prelude.{◌≡◌, ◌↔◌, ◌++◌, ℕ, Bool, true, false, ◌&&◌, ◌==◌, List, [], ◌∷◌, map, Option, Some, None, Result, Ok, Err, Contains}
+use Rattle.std.specs.List.{Any, filter, flat_map}
 use Rattle.std.specs.List.Sorted.{IsStrictlySortedBy}
 use Rattle.std.specs.Ordering.{nat_cmp, ordering_then}
 use Rattle.std.specs.Cmp.Lexicographic.{slice_cmp}
@@ -12,44 +13,42 @@ use Rattle.param_ids.specs.Tables.{ScaleMap}
 use Rattle.snx_rows.specs.declared.rows.Row.{Row}
 use Rattle.snx_blocks.specs.Documents.{PlainDoc}
 use Rattle.snx_blocks.specs.declared.sections.Section.TheVariants.{Apriori}
-use Rattle.control_doc.specs.Plain.{PlainPlan}
+use Rattle.control_doc.specs.Plain.{PlainPlan, PlainDatum, PlainControl}
 use Rattle.control_doc.specs.declared.plans.Form.{Form}
 use Rattle.control_doc.specs.declared.plans.Form.TheVariants as forms
 use Rattle.neq_stack.specs.Neqs.{PlainNeq}
 use Rattle.neq_stack.specs.Stacks.{IsStacked}
+use Rattle.recover_neq.specs.Blocks.{value_of}
 use Rattle.recover_neq.specs.Recovery.{IsRecovered}
+use Rattle.apriori_shift.specs.Common.{IsCommon}
+use Rattle.apriori_shift.specs.Shifts.{IsShift}
+use Rattle.datum_rows.specs.Additions.{IsAddition}
 use Rattle.stack_rules.specs.Rules.{Numbers, IsAnswer}
 use Rattle.stack_rules.specs.Stacks.{Stack, stack_of}
 use Rattle.bounds_text.specs.Report.{numbers_report}
 use Rattle.refusal_lines.specs.declared.refusal.Scope.TheVariants as places
 use Rattle.refusal_lines.specs.declared.refusal.Refusal.{Refusal}
-use Rattle.refusal_lines.specs.declared.refusal.Refusal.TheVariants.{Block, Unbuilt, TooMany}
+use Rattle.refusal_lines.specs.declared.refusal.Refusal.TheVariants.{Block, Unbuilt, UnitClash, TooMany}
 use Rattle.run_inputs.specs.Inputs.{PlainInput}
-use Rattle.combine_cli.specs.Causes.{refusal_of_recovery, refusal_of_rules}
+use Rattle.combine_cli.specs.Causes.{refusal_of_recovery, refusal_of_shift, refusal_of_datum, refusal_of_rules}
 
--- ---- one a priori value and one unit for each name
+-- ---- common a priori values and units
 -- the rows of a document's a priori values
 abbrev pub apriori_rows : Option (List Row) → List Row
 apriori_rows None = []
 apriori_rows (Some rows) = rows
 
--- two rows give one name two values, or two units
-pub record Clash (one other : Row) : Type 0 where
-  pub name : one.id ≡ other.id
-  pub differ : (one.value ≢ other.value) ⊎ (one.unit ≢ other.unit)
+-- The a priori rows of all files: those of the reference file first, then those of the files in the order of their names. The first row
+-- of a name is the one that counts.
+abbrev pub is_reference : List ℕ → PlainInput → Bool
+is_reference reference input = bytes_eq input.plan.name reference
 
--- a row of the file clashes with one of a file before it
-abbrev pub ClashesWith : List PlainInput → PlainInput → Type 0
-ClashesWith before input =
-    Any (λ row. Any (λ (earlier : PlainInput). Any (Clash row) (apriori_rows earlier.doc.apriori)) before) (apriori_rows input.doc.apriori)
+abbrev pub counted_rows : List ℕ → List PlainInput → List Row
+counted_rows reference inputs = flat_map (λ (input : PlainInput). apriori_rows input.doc.apriori) (filter (is_reference reference) inputs ++ inputs)
 
--- The file, where none of its rows clashes with those before it. Files with several a priori values for a name are not built yet.
-abbrev pub IsAgreed : List PlainInput → PlainInput → Result PlainInput Refusal → Type 0
-IsAgreed before input (Ok same) = (same ≡ input) × ¬ (ClashesWith before input)
-IsAgreed before input (Err refusal) = (refusal ≡ Unbuilt input.plan.name) × ClashesWith before input
-
-abbrev pub AreAgreed : List PlainInput → Result (List PlainInput) Refusal → Type 0
-AreAgreed inputs = InTurn IsAgreed [] inputs
+-- these rows, by which each name has a common value, or the refusal of the least name with two units
+abbrev pub HaveCommon : List ℕ → List PlainInput → Result (List Row) Refusal → Type 0
+HaveCommon reference inputs = Renamed UnitClash (IsCommon (counted_rows reference inputs))
 
 -- ---- the normal equations of each file
 -- a file that is to be taken from its solution: that is not built yet, but its a priori values must be there
@@ -65,16 +64,23 @@ RecoversBy form plan scales doc result = Renamed (refusal_of_recovery form plan.
 abbrev pub Recovers : PlainPlan → ScaleMap → PlainDoc → Result PlainNeq Refusal → Type 0
 Recovers plan = RecoversBy plan.form plan
 
--- a part of the combination: a file and its normal equations
+-- normal equations of a file at the common values, or why they are not brought there
+abbrev pub Shifts : List ℕ → List Row → PlainNeq → Result PlainNeq Refusal → Type 0
+Shifts name base neq = Renamed (refusal_of_shift name neq.names) (IsShift (map (value_of base) neq.names) neq)
+
+-- a part of the combination: a file and its normal equations at the common values
 pub record Part : Type 0 where
   pub plan : PlainPlan
   pub neq : PlainNeq
 
-abbrev pub IsPart : ScaleMap → List Part → PlainInput → Result Part Refusal → Type 0
-IsPart scales before input = Then (Recovers input.plan scales input.doc) (λ neq r. r ≡ Ok (record { plan = input.plan; neq = neq }))
+abbrev pub IsPart : ScaleMap → List Row → List Part → PlainInput → Result Part Refusal → Type 0
+IsPart scales base before input =
+    Then (Recovers input.plan scales input.doc) (λ recovered.
+    Then (Shifts input.plan.name base recovered) (λ neq r.
+    r ≡ Ok (record { plan = input.plan; neq = neq })))
 
-abbrev pub AreParts : ScaleMap → List PlainInput → Result (List Part) Refusal → Type 0
-AreParts scales inputs = InTurn (IsPart scales) [] inputs
+abbrev pub AreParts : ScaleMap → List Row → List PlainInput → Result (List Part) Refusal → Type 0
+AreParts scales base inputs = InTurn (IsPart scales base) [] inputs
 
 -- ---- groups
 -- a group of files, by its name; or a file without a group, which is one of its own under the file's name
@@ -126,6 +132,12 @@ abbrev pub StacksParts : List Part → Result PlainNeq Refusal → Type 0
 StacksParts parts result =
     (groups : List Group) × AreGroups (map (λ (part : Part). part.plan) parts) groups × Then (AreGroupStacks parts groups) IsWholeStack result
 
+-- ---- the datum
+-- the stack with the rows of the datum, if there is one, or why they are not added
+abbrev pub AddsDatum : Option PlainDatum → PlainNeq → Result PlainNeq Refusal → Type 0
+AddsDatum None free result = result ≡ Ok free
+AddsDatum (Some datum) free result = Renamed (refusal_of_datum free.names) (IsAddition datum free) result
+
 -- ---- the rules
 -- the numbers of the stack
 abbrev pub stack_in : PlainNeq → Stack
@@ -142,10 +154,11 @@ pub record Texts : Type 0 where
   pub out : List ℕ
   pub report : List ℕ
 
-abbrev pub IsCombined : ScaleMap → List PlainInput → Result Texts Refusal → Type 0
-IsCombined scales inputs =
-    Then (AreAgreed inputs) (λ agreed.
-    Then (AreParts scales agreed) (λ parts.
-    Then (StacksParts parts) (λ neq.
+abbrev pub IsCombined : PlainControl → List PlainInput → Result Texts Refusal → Type 0
+IsCombined control inputs =
+    Then (HaveCommon control.run.reference inputs) (λ base.
+    Then (AreParts control.scales base inputs) (λ parts.
+    Then (StacksParts parts) (λ free.
+    Then (AddsDatum control.datum free) (λ neq.
     Then (Reports neq) (λ report r.
-    r ≡ Ok (record { out = []; report = report })))))
+    r ≡ Ok (record { out = []; report = report }))))))

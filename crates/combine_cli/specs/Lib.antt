@@ -2,7 +2,6 @@ pub mod Alike
 pub mod Causes
 pub mod Combination
 pub mod Headline
-pub mod Known
 pub mod Parts
 pub mod Plan
 pub mod Runs

@@ -28,8 +28,8 @@ pub record IsCertifiedText (neq : PlainNeq) (text : List ℕ) : Type 0 where
 pub record IsTextsOf (control : PlainControl) (files : List ℕ → Option File) (texts : Texts) : Type 0 where
   pub inputs : List PlainInput
   pub reads : ReadsInputs control.files files (Ok inputs)
-  pub combined : IsCombined control.scales inputs (Ok texts)
-  pub certified : IsCertifiedReport control.scales inputs texts.report
+  pub combined : IsCombined control inputs (Ok texts)
+  pub certified : IsCertifiedReport control inputs texts.report
 
 -- The words are a command, it has a control, and the outputs are those with the control's texts.
 pub record IsPlanned (words : List (List ℕ)) (files : List ℕ → Option File) (outputs : List NamedText) : Type 0 where

@@ -19,7 +19,7 @@ Outcome = Result (List NamedText) Refusal
 
 -- what a command does to the files of a control: it reads them and combines them
 abbrev pub Combines : PlainControl → (List ℕ → Option File) → Result Texts Refusal → Type 0
-Combines control files = Then (ReadsInputs control.files files) (IsCombined control.scales)
+Combines control files = Then (ReadsInputs control.files files) (IsCombined control)
 
 -- the control of a command: `solve` is the combination of a single file
 abbrev pub HasControl : PlainCommand → (List ℕ → Option File) → Result PlainControl Refusal → Type 0

@@ -1,15 +1,18 @@
 //! From files that were read to the texts of their combination.
 
-ghost use Rattle.std.specs.Prelude.{◌≡◌, ◌≢◌, ◌≤◌, All, IfOk, IfErr, Ok, Err, length, map};
+ghost use Rattle.std.specs.Prelude.{◌≡◌, ◌≢◌, ◌≤◌, All, IfOk, IfErr, IfSome, Ok, Err, length, map};
 ghost use Rattle.snx_blocks.specs.Documents.{IsValid};
 ghost use Rattle.snx_blocks.specs.Views.{doc_view};
+ghost use Rattle.control_doc.specs.Valid.{HasPositiveSigmas};
+ghost use Rattle.control_doc.specs.Views.{control_view};
 ghost use Rattle.refusal_lines.specs.Refusals.{status_of};
 ghost use Rattle.run_inputs.specs.Views.{input_view, IfTold};
 ghost use Rattle.combine_cli.specs.Combination.{IsCombined};
 ghost use Rattle.combine_cli.specs.Headline.{IsCertifiedReport};
 ghost use Rattle.combine_cli.specs.Plan.{texts_view};
 
-use crate::agreeing::all_agree;
+use crate::commons::common_of;
+use crate::datum::with_datum;
 use crate::parts::parts_of;
 use crate::reporting::report_of;
 use crate::stacking::stack_of_parts;
@@ -40,9 +43,9 @@ fn workers_of(control: &Control) -> usize
 ///
 /// # Errors
 ///
-/// The first refusal, in this order: Unbuilt for the first file of which a name has another a priori value or unit in a file before
-/// it; for each file in turn Block, Unbuilt, Unmatched, Empty, Range; for each group TooMany, and then TooMany for the whole stack;
-/// then the rules' Range, Pivot, Condition, Residual and Defect; or want of memory.
+/// The first refusal, in this order: UnitClash for the least name with two units; for each file in turn Block, Unbuilt, Unmatched,
+/// Empty, Range, and then the Range of its way to the common a priori values; for each group TooMany, and then TooMany for the whole
+/// stack; UnmatchedSite and Range of the datum; then the rules' Range, Pivot, Condition, Residual and Defect; or want of memory.
 pub fn combine_core<R: Threads + Sync>(
     rt: &R,
     alloc: Global,
@@ -51,14 +54,16 @@ pub fn combine_core<R: Threads + Sync>(
 ) -> Result<Combined, Refusal>
     requires valid { All (λ input. IsValid (doc_view input.doc)) inputs.items }
     requires few { length inputs.items ≤ 64 }
-    ensures combined { IfOk result (λ combined. IsCombined control.now.scales (map input_view inputs.entry.items) (Ok (texts_view combined))) }
-    ensures certified { IfOk result (λ combined. IsCertifiedReport control.now.scales (map input_view inputs.entry.items) combined.report.items) }
-    ensures refused { IfErr result (IfTold (λ refusal. IsCombined control.now.scales (map input_view inputs.entry.items) (Err refusal))) }
+    requires positive { IfSome (control_view control.now).datum HasPositiveSigmas }
+    ensures combined { IfOk result (λ combined. IsCombined (control_view control.now) (map input_view inputs.entry.items) (Ok (texts_view combined))) }
+    ensures certified { IfOk result (λ combined. IsCertifiedReport (control_view control.now) (map input_view inputs.entry.items) combined.report.items) }
+    ensures refused { IfErr result (IfTold (λ refusal. IsCombined (control_view control.now) (map input_view inputs.entry.items) (Err refusal))) }
     ensures no_fault { IfErr result (λ refusal. status_of refusal ≢ 5) }
 {
-    all_agree(alloc, &inputs)?;
-    let parts = parts_of(alloc, &control.scales, inputs)?;
-    let neq = stack_of_parts(alloc, &parts)?;
+    let base = common_of(alloc, control.reference.as_str(), &inputs)?;
+    let parts = parts_of(alloc, &control.scales, &base, inputs)?;
+    let mut neq = stack_of_parts(alloc, &parts)?;
+    with_datum(alloc, control.datum.as_ref(), &mut neq)?;
     let report = report_of(rt, alloc, &neq, workers_of(control))?;
     Ok(Combined {
         out: Vec::new(alloc),

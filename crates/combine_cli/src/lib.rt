@@ -1,11 +1,13 @@
 //! The top call: from the words of a command and the files of a desk to the files that it leaves and its status.
 #![tactic(auto)]
 
-mod agreeing;
+mod commons;
 mod combining;
+mod datum;
 mod decide;
 mod groups;
 mod laws;
+mod naming;
 mod parts;
 mod reporting;
 mod stacking;

@@ -1,26 +1,39 @@
-//! The normal equations of each file.
+//! The normal equations of each file, at the common a priori values.
 
-ghost use Rattle.std.specs.Prelude.{◌≡◌, ◌≢◌, [], All, IfOk, IfErr, Ok, Err, map};
+ghost use Rattle.std.specs.Prelude.{◌≡◌, ◌≢◌, ◌*◌, ◌^◌, [], All, List, IfOk, IfErr, IsSome, Ok, Err, map};
+ghost use Rattle.std.specs.BTreeMap.{get};
 ghost use Rattle.stated_order.specs.Lists.{AreEach};
 ghost use Rattle.snx_blocks.specs.Documents.{IsValid};
 ghost use Rattle.snx_blocks.specs.Views.{doc_view};
+ghost use Rattle.control_doc.specs.Views.{plan_view};
+ghost use Rattle.decimal_e.specs.Fractions.{IsAtMost};
+ghost use Rattle.param_ids.specs.Order.{id_cmp};
+ghost use Rattle.param_ids.specs.Plain.{PlainId};
+ghost use Rattle.snx_rows.specs.declared.rows.Row.{Row as PlainRow};
+ghost use Rattle.neq_stack.specs.ByName.{AreAtMost};
+ghost use Rattle.neq_stack.specs.Neqs.{IsSound, neq_view};
+ghost use Rattle.recover_neq.specs.Blocks.{value_of};
+ghost use Rattle.apriori_shift.specs.Answers.{HasFirstRows, common_value};
+ghost use Rattle.apriori_shift.specs.Shifts.{IsShift};
 ghost use Rattle.refusal_lines.specs.Refusals.{status_of};
 ghost use Rattle.run_inputs.specs.Views.{input_view, IfTold};
-ghost use Rattle.combine_cli.specs.Causes.{refusal_of_recovery};
-ghost use Rattle.combine_cli.specs.Combination.{solution_refusal, IsPart, AreParts};
-ghost use Rattle.combine_cli.specs.Parts.{part_view, IsPartOf};
+ghost use Rattle.combine_cli.specs.Causes.{refusal_of_recovery, refusal_of_shift};
+ghost use Rattle.combine_cli.specs.Combination.{solution_refusal, Recovers, Shifts, IsPart, AreParts};
+ghost use Rattle.combine_cli.specs.Parts.{part_view, Covers, IsRecoveredOf, IsPartOf};
 ghost use Rattle.recover_neq.specs.declared.RecoverFault.TheVariants.{MissingBlock};
 
+use crate::naming::name_at;
+use apriori_shift::{Apriori, ShiftError, shift};
 use control_doc::{FilePlan, Form};
 use neq_stack::Neq;
-use param_ids::Scales;
+use param_ids::{Names, Scales};
 use recover_neq::{RecoverError, RecoverFault, recover};
 use refusal_lines::{Name, Refusal, Scope};
 use run_inputs::{Input, named};
 use snx_blocks::{Doc, Section};
 use std::alloc::Global;
 
-// A file and its normal equations.
+// A file and its normal equations at the common values.
 #[derive(Drop)]
 pub struct FilePart<'a> {
     pub plan: &'a FilePlan,
@@ -77,12 +90,12 @@ fn solution_refusal(name: Name, doc: &Doc) -> Refusal
     }
 }
 
-// The part of a file.
-fn part_of<'a>(alloc: Global, scales: &Scales, input: &Input<'a>) -> Result<FilePart<'a>, Refusal>
+// The normal equations of a file, or why it has none.
+fn recovered(alloc: Global, scales: &Scales, input: &Input<'_>) -> Result<Neq<16>, Refusal>
     requires { IsValid (doc_view input.now.doc) }
-    ensures part { IfOk result (λ part. IsPart scales.now [] (input_view input.now) (Ok (part_view part))) }
-    ensures known { IfOk result (λ part. IsPartOf scales.now (input_view input.now) (part_view part)) }
-    ensures refused { IfErr result (IfTold (λ refusal. IsPart scales.now [] (input_view input.now) (Err refusal))) }
+    ensures recovers { IfOk result (λ neq. Recovers (input_view input.now).plan scales.now (input_view input.now).doc (Ok (neq_view neq))) }
+    ensures known { IfOk result (λ neq. IsRecoveredOf scales.now (input_view input.now) (neq_view neq)) }
+    ensures refused { IfErr result (IfTold (λ refusal. Recovers (input_view input.now).plan scales.now (input_view input.now).doc (Err refusal))) }
     ensures no_fault { IfErr result (λ refusal. status_of refusal ≢ 5) }
 {
     let plan = input.plan;
@@ -91,7 +104,7 @@ fn part_of<'a>(alloc: Global, scales: &Scales, input: &Input<'a>) -> Result<File
         return Err(solution_refusal(name, &input.doc));
     }
     match recover(alloc, &input.doc, &plan.weight, scales) {
-        Ok(neq) => Ok(FilePart { plan, neq }),
+        Ok(neq) => Ok(neq),
         Err(RecoverError::Fault(fault)) => {
             let name = named(alloc, plan.name.as_str())?;
             Err(refusal_of_recovery(plan.form, name, &fault))
@@ -100,21 +113,86 @@ fn part_of<'a>(alloc: Global, scales: &Scales, input: &Input<'a>) -> Result<File
     }
 }
 
+// The refusal of the file of that name, whose normal equations are not brought to the common values.
+fn refusal_of_shift(name: Name, names: &Names, row: usize, col: usize) -> Refusal
+    ensures told { result ≡ refusal_of_shift name names.now (record { row = row; col = col }) }
+    ensures no_fault { status_of result ≢ 5 }
+{
+    Refusal::Range {
+        place: Scope::File(name),
+        row: name_at(names, row),
+        col: name_at(names, col),
+    }
+}
+
+// Brings the normal equations of a file to the common values, or says why they are not brought there.
+fn shifted(
+    alloc: Global,
+    plan: &FilePlan,
+    base: &Apriori,
+    neq: &mut Neq<16>,
+) -> Result<(), Refusal>
+    requires sound { IsSound (neq_view neq.old) }
+    requires modest { AreAtMost (10 ^ 34) (neq_view neq.old) }
+    requires known { All (λ id. IsSome (get id_cmp base.now id)) neq.old.names }
+    requires small { (id : PlainId) → IsAtMost (10 ^ 12) (common_value base.now id) }
+    ensures shifts { (rows : List PlainRow) → HasFirstRows base.now rows → IfOk result (λ done. IsShift (map (value_of rows) neq.old.names) (neq_view neq.old) (Ok (neq_view neq.new))) }
+    ensures sound { IsSound (neq_view neq.new) }
+    ensures modest { AreAtMost (2 * 10 ^ 34) (neq_view neq.new) }
+    ensures refused { (rows : List PlainRow) → HasFirstRows base.now rows → IfErr result (IfTold (λ refusal. Shifts (plan_view plan.now).name rows (neq_view neq.old) (Err refusal))) }
+    ensures no_fault { IfErr result (λ refusal. status_of refusal ≢ 5) }
+{
+    match shift(alloc, neq, base) {
+        Ok(()) => Ok(()),
+        Err(ShiftError::Range { row, col }) => {
+            let name = named(alloc, plan.name.as_str())?;
+            Err(refusal_of_shift(name, &neq.names, row, col))
+        }
+        Err(ShiftError::Memory) => Err(Refusal::Memory),
+    }
+}
+
+// The part of a file.
+fn part_of<'a>(
+    alloc: Global,
+    scales: &Scales,
+    base: &Apriori,
+    input: &Input<'a>,
+) -> Result<FilePart<'a>, Refusal>
+    requires valid { IsValid (doc_view input.now.doc) }
+    requires covered { Covers base.now (input_view input.now) }
+    requires small { (id : PlainId) → IsAtMost (10 ^ 12) (common_value base.now id) }
+    ensures part { (rows : List PlainRow) → HasFirstRows base.now rows → IfOk result (λ part. IsPart scales.now rows [] (input_view input.now) (Ok (part_view part))) }
+    ensures known { (rows : List PlainRow) → HasFirstRows base.now rows → IfOk result (λ part. IsPartOf scales.now rows (input_view input.now) (part_view part)) }
+    ensures refused { (rows : List PlainRow) → HasFirstRows base.now rows → IfErr result (IfTold (λ refusal. IsPart scales.now rows [] (input_view input.now) (Err refusal))) }
+    ensures no_fault { IfErr result (λ refusal. status_of refusal ≢ 5) }
+{
+    let mut neq = recovered(alloc, scales, input)?;
+    shifted(alloc, input.plan, base, &mut neq)?;
+    Ok(FilePart {
+        plan: input.plan,
+        neq,
+    })
+}
+
 // The parts of a combination, one for each file. Each document is let go once its part stands.
 pub fn parts_of<'a>(
     alloc: Global,
     scales: &Scales,
+    base: &Apriori,
     inputs: Vec<Input<'a>>,
 ) -> Result<Vec<FilePart<'a>>, Refusal>
     requires valid { All (λ input. IsValid (doc_view input.doc)) inputs.items }
-    ensures parts { IfOk result (λ parts. AreParts scales.now (map input_view inputs.entry.items) (Ok (map part_view parts.items))) }
-    ensures each { IfOk result (λ parts. AreEach (IsPartOf scales.now) (map input_view inputs.entry.items) (map part_view parts.items)) }
-    ensures refused { IfErr result (IfTold (λ refusal. AreParts scales.now (map input_view inputs.entry.items) (Err refusal))) }
+    requires covered { All (Covers base.now) (map input_view inputs.items) }
+    requires small { (id : PlainId) → IsAtMost (10 ^ 12) (common_value base.now id) }
+    ensures parts { (rows : List PlainRow) → HasFirstRows base.now rows → IfOk result (λ parts. AreParts scales.now rows (map input_view inputs.entry.items) (Ok (map part_view parts.items))) }
+    ensures each { (rows : List PlainRow) → HasFirstRows base.now rows → IfOk result (λ parts. AreEach (IsPartOf scales.now rows) (map input_view inputs.entry.items) (map part_view parts.items)) }
+    ensures refused { (rows : List PlainRow) → HasFirstRows base.now rows → IfErr result (IfTold (λ refusal. AreParts scales.now rows (map input_view inputs.entry.items) (Err refusal))) }
     ensures no_fault { IfErr result (λ refusal. status_of refusal ≢ 5) }
 {
     let mut parts = Vec::new(alloc);
     for input in inputs {
-        let part = part_of(alloc, scales, &input)?;
+        let part = part_of(alloc, scales, base, &input)?;
         if parts.push(part).is_err() {
             return Err(Refusal::Memory);
         }

@@ -2,37 +2,20 @@
 
 ghost use Rattle.std.specs.Prelude.{◌≡◌, ◌≢◌, ◌≤◌, IfOk, IfErr, Ok, Err};
 ghost use Rattle.neq_stack.specs.Neqs.{IsSound, neq_view};
-ghost use Rattle.neq_stack.specs.Systems.{name_at};
 ghost use Rattle.refusal_lines.specs.Refusals.{status_of};
 ghost use Rattle.run_inputs.specs.Views.{IfTold};
 ghost use Rattle.combine_cli.specs.Causes.{refusal_of_rules};
 ghost use Rattle.combine_cli.specs.Combination.{Reports};
 ghost use Rattle.combine_cli.specs.Plan.{IsCertifiedText};
 
+use crate::naming::name_at;
 use bounds_text::report;
 use neq_stack::Neq;
-use param_ids::{Names, ParamId};
+use param_ids::Names;
 use refusal_lines::{Refusal, Scope};
-use snx_epoch::Epoch;
 use stack_rules::{StackError, certify};
 use std::alloc::Global;
 use std::thread::Threads;
-
-// The name of row k, counted from 0.
-fn name_at(names: &Names, k: usize) -> ParamId
-    ensures { result ≡ name_at names.now k }
-{
-    if k < names.len() {
-        return *names.at(k);
-    }
-    ParamId {
-        kind: [0; 6],
-        code: [0; 4],
-        point: [0; 2],
-        soln: [0; 4],
-        epoch: Epoch::Never,
-    }
-}
 
 // The refusal of a stack of these names for a cause of the rules.
 fn refusal_of_rules(names: &Names, cause: StackError) -> Refusal

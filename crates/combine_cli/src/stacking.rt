@@ -26,7 +26,7 @@ fn stack_of_group(
 ) -> Result<Neq<16>, Refusal>
     requires sound { All IsSound (neqs_of (map part_view parts.now)) }
     requires agree { AllAgree (neqs_of (map part_view parts.now)) }
-    requires modest { All (AreAtMost (10 ^ 34)) (neqs_of (map part_view parts.now)) }
+    requires modest { All (AreAtMost (2 * 10 ^ 34)) (neqs_of (map part_view parts.now)) }
     requires few { length parts.now ≤ 64 }
     ensures stacked { IfOk result (λ neq. IsGroupStack (map part_view parts.now) [] (group_of (plan_view plan.now)) (Ok (neq_view neq))) }
     ensures refused { IfErr result (IfTold (λ refusal. IsGroupStack (map part_view parts.now) [] (group_of (plan_view plan.now)) (Err refusal))) }
@@ -51,7 +51,7 @@ fn stacks_of_groups(
 ) -> Result<Vec<Neq<16>>, Refusal>
     requires sound { All IsSound (neqs_of (map part_view parts.now)) }
     requires agree { AllAgree (neqs_of (map part_view parts.now)) }
-    requires modest { All (AreAtMost (10 ^ 34)) (neqs_of (map part_view parts.now)) }
+    requires modest { All (AreAtMost (2 * 10 ^ 34)) (neqs_of (map part_view parts.now)) }
     requires few { length parts.now ≤ 64 }
     ensures stacked { IfOk result (λ stacks. AreGroupStacks (map part_view parts.now) (map (λ plan. group_of (plan_view plan.now)) plans.now) (Ok (map neq_view stacks.items))) }
     ensures refused { IfErr result (IfTold (λ refusal. AreGroupStacks (map part_view parts.now) (map (λ plan. group_of (plan_view plan.now)) plans.now) (Err refusal))) }
@@ -83,7 +83,7 @@ fn references<'a>(alloc: Global, stacks: &'a [Neq<16>]) -> Result<Vec<&'a Neq<16
 fn stack_of_stacks(alloc: Global, stacks: &[Neq<16>]) -> Result<Neq<16>, Refusal>
     requires sound { All IsSound (map neq_view stacks.now) }
     requires agree { AllAgree (map neq_view stacks.now) }
-    requires modest { All (AreAtMost (64 * 10 ^ 34)) (map neq_view stacks.now) }
+    requires modest { All (AreAtMost (64 * (2 * 10 ^ 34))) (map neq_view stacks.now) }
     requires few { length stacks.now ≤ 64 }
     ensures stacked { IfOk result (λ neq. IsWholeStack (map neq_view stacks.now) (Ok (neq_view neq))) }
     ensures refused { IfErr result (IfTold (λ refusal. IsWholeStack (map neq_view stacks.now) (Err refusal))) }
@@ -104,7 +104,7 @@ fn stack_of_stacks(alloc: Global, stacks: &[Neq<16>]) -> Result<Neq<16>, Refusal
 pub fn stack_of_parts(alloc: Global, parts: &[FilePart<'_>]) -> Result<Neq<16>, Refusal>
     requires sound { All IsSound (neqs_of (map part_view parts.now)) }
     requires agree { AllAgree (neqs_of (map part_view parts.now)) }
-    requires modest { All (AreAtMost (10 ^ 34)) (neqs_of (map part_view parts.now)) }
+    requires modest { All (AreAtMost (2 * 10 ^ 34)) (neqs_of (map part_view parts.now)) }
     requires few { length parts.now ≤ 64 }
     ensures stacked { IfOk result (λ neq. StacksParts (map part_view parts.now) (Ok (neq_view neq))) }
     ensures whole { IfOk result (λ neq. IsStackOf (neqs_of (map part_view parts.now)) (neq_view neq)) }
