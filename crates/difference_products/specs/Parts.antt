@@ -13,6 +13,10 @@ use Rattle.difference_products.specs.Products.{Place}
 abbrev pub interval_of : List Interval → ℕ → Interval
 interval_of zs j = slice_index_or zs j zero_interval
 
+-- a place on the diagonal whose row has the property
+abbrev pub OnDiagonal : (ℕ → Type 0) → Place → Type 0
+OnDiagonal P p = (p.row ≡ p.col) × P p.row
+
 -- ---- the working table
 -- a is the working table of t, with the exponents e
 pub record IsWorkingTable (t a : SymTable) (e : ℕ → ℤ) : Type 0 where

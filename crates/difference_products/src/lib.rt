@@ -8,9 +8,16 @@ ghost use Rattle.difference_products.specs.Products.{IsProduct, OneProduct};
 ghost use Rattle.difference_products.specs.Exact.{ProductHolds};
 ghost use Rattle.difference_products.specs.Answers.{factors_of, IfRange};
 
+mod rows;
+mod scaled;
+mod tables;
+
 use interval_word::Iv;
+use rows::row_products;
+use scaled::{are_zero, scaled_differences};
 use std::alloc::Global;
 use sym_blocks::SymBlock;
+use tables::{working_table, zeros};
 use thiserror::Error;
 
 /// Why there is no product.
@@ -45,7 +52,15 @@ pub fn product<const N: usize>(
     ensures product { IfOk result (λ products. IsProduct (factors_of table.now differences.now scales.now) (Ok products.items)) }
     ensures range { IfErr result (IfRange (λ place. IsProduct (factors_of table.now differences.now scales.now) (Err place))) }
 {
-    Err(ProductError::Memory)
+    if are_zero(differences) {
+        return match zeros(alloc, differences.len()) {
+            Ok(products) => Ok(products),
+            Err(_) => Err(ProductError::Memory),
+        };
+    }
+    let w = working_table(alloc, table)?;
+    let zs = scaled_differences(alloc, differences, scales, &w.e)?;
+    row_products(alloc, &w, &zs)
 }
 
 /// There is one product, or one first place past its bound, and the product holds the exact one.
