@@ -1,5 +1,6 @@
 -- The product from its parts.
-use Rattle.std.proofs.Common.{◌≡◌, ◌≤◌, ◌<◌, ◌^◌, ◌∙◌, inl, inr, ℕ, ℤ, pos, List, length, Ok, Err, arith, ap, sym, subst}
+use Rattle.std.proofs.Common.{◌≡◌, ◌≤◌, ◌<◌, ◌^◌, ◌∙◌, inl, inr, ℕ, ℤ, pos, List, length, Bool, true, false, All, IsTrue, Ok, Err, arith, ap, sym, subst}
+use Rattle.std.specs.Prelude.{◌↔◌}
 use Rattle.std.proofs.Math.IntN.{◌-ℤ◌}
 use Rattle.stated_order.specs.First.{IsFirstFailure}
 use Rattle.stated_order.proofs.FirstLaws.{first_failure_moves}
@@ -10,10 +11,10 @@ use Rattle.sym_blocks.specs.Tables.{SymTable, entry_at, zero_interval}
 use Rattle.equil.specs.Tables.{EntriesFit, exponent_of, working_entry}
 use Rattle.difference_products.specs.Products.{Place, scaled_difference, row_sum, row_product, ProductFits, AreZero, AreProducts, IsUnfit, IsProduct}
 use Rattle.difference_products.specs.Answers.{factors_of, IfRange}
-use Rattle.difference_products.specs.Parts.{OnDiagonal, interval_of, IsWorkingTable, scaled_of, AreScaledTo, IsFirstFar, sum_of_row, product_of_row, RowFits, AreProductsTo}
+use Rattle.difference_products.specs.Parts.{OnDiagonal, interval_of, IsWorkingTable, scaled_of, AreScaledTo, IsFirstFar, AreSmall, sum_of_row, product_of_row, RowFits, AreProductsTo}
 use Rattle.difference_products.specs.declared.ProductError.{ProductError}
 use Rattle.difference_products.specs.declared.ProductError.TheVariants.{Range, Memory}
-use Rattle.difference_products.proofs.DifferenceLaws.{fewer_fit}
+use Rattle.difference_products.proofs.DifferenceLaws.{fewer_fit, scaled_small}
 
 pub range_weaker : (P Q : Place → Type 0) → ((p : Place) → P p → Q p) → (x : ProductError) → IfRange P x → IfRange Q x
 range_weaker P Q f (Range row col) h = f (record { row = row; col = col }) h
@@ -70,3 +71,32 @@ module _ (t a : SymTable) (ds : List Interval) (ts es : List ℤ) (work : IsWork
       rows = done.len ∙ work.rows;
       each = λ i row. done.each i (omega (arith, work.rows)) ∙ product_is i row;
     }
+
+-- ---- the answers; the test of the differences answers b
+tested_false : (b : Bool) (P : Type 0) → b ≡ false → (IsTrue b ↔ P) → ¬ P
+tested_false b P f h p = let t : b ≡ true = h.1 p in cc
+
+module _ (t a : SymTable) (ds : List Interval) (ts es : List ℤ) (b : Bool) (test : b ≡ false) (tested : IsTrue b ↔ All (λ w. w ≡ zero_interval) ds) (work : IsWorkingTable t a (exponent_of es)) (small : (i j : ℕ) → i < a.size → j < a.size → size (entry_at a i j) ≤ 2 ^ 61) (len : length ds ≡ t.size) where
+  some : ¬ (AreZero (factors_of t ds ts))
+  some = tested_false b (All (λ w. w ≡ zero_interval) ds) test tested
+
+  pub far_refused : (fs : List ℤ) → fs ≡ es → (x : ProductError) → IfRange (OnDiagonal (IsFirstFar (length ds) ds ts fs)) x → IfRange (λ p. IsProduct (factors_of t ds ts) (Err p)) x
+  far_refused fs same x h =
+      range_weaker (OnDiagonal (IsFirstFar (length ds) ds ts es)) (λ p. IsProduct (factors_of t ds ts) (Err p)) (λ p far. (some, far_unfit t a ds ts es work small p len far)) x
+      (subst (λ l. IfRange (OnDiagonal (IsFirstFar (length ds) ds ts l)) x) same h)
+
+  -- zs are the scaled differences, which stand in the lists fs and us too
+  module _ (zs us : List Interval) (fs : List ℤ) (other : us ≡ zs) (same : fs ≡ es) (scaled : AreScaledTo (length ds) ds ts fs zs) where
+    all_scaled : AreScaledTo t.size ds ts es zs
+    all_scaled = subst (λ n. AreScaledTo n ds ts es zs) len (subst (λ l. AreScaledTo (length ds) ds ts l zs) same scaled)
+
+    pub small_for : AreSmall a.size us
+    small_for = subst (λ l. AreSmall a.size l) (sym other) (subst (λ n. AreSmall n zs) (sym work.rows) (scaled_small t.size ds ts es zs all_scaled))
+
+    pub wide_refused : (x : ProductError) → IfRange (OnDiagonal (IsFirstFailure a.size (RowFits a us es))) x → IfRange (λ p. IsProduct (factors_of t ds ts) (Err p)) x
+    wide_refused x h =
+        range_weaker (OnDiagonal (IsFirstFailure a.size (RowFits a zs es))) (λ p. IsProduct (factors_of t ds ts) (Err p)) (λ p wide. (some, wide_unfit t a ds ts es work small zs all_scaled p wide)) x
+        (subst (λ l. IfRange (OnDiagonal (IsFirstFailure a.size (RowFits a l es))) x) other h)
+
+    pub product_answered : (products : List Interval) → AreProductsTo a.size a us es products → IsProduct (factors_of t ds ts) (Ok products)
+    product_answered products h = inr (some, are_products t a ds ts es work small zs all_scaled products (subst (λ l. AreProductsTo a.size a l es products) other h))
