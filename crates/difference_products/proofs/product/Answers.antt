@@ -16,9 +16,11 @@ returns-in_err-zs-clause-range g c =
 
 pub row_products-requires : goal.row_products-requires
 row_products-requires g c =
-    let w = c.in_ok-w.w in
-    (omega arith, small_for c.args.table.now w.a c.args.differences.now c.args.scales.now w.e.items c.are_zero.result c.if-are_zero.false c.are_zero.ensures c.in_ok-w.ensures.working w.entries_small c.requires.differences
-    c.in_ok-zs.zs.items c.deref-2.result.now c.deref.result.now c.deref-2.ensures.value c.deref.ensures.value c.in_ok-zs.ensures.scaled)
+    let w = c.in_ok-w.w in (
+      omega arith,
+      small_for c.args.table.now w.a c.args.differences.now c.args.scales.now w.e.items c.are_zero.result c.if-are_zero.false c.are_zero.ensures c.in_ok-w.ensures.working w.entries_small c.requires.differences
+          c.in_ok-zs.zs.items c.deref-2.result.now c.deref.result.now c.deref-2.ensures.value c.deref.ensures.value c.in_ok-zs.ensures.scaled,
+    )
 
 pub returns-clause-product : goal.returns-clause-product
 returns-clause-product g c =
