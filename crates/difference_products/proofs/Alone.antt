@@ -1,9 +1,7 @@
 -- There is one product, or one first interval past its bound, and never both.
-use Rattle.std.proofs.Common.{◌≡◌, ◌≤◌, ◌<◌, ◌^◌, ◌∙◌, ◌⊎◌, inl, inr, ℕ, suc, ℤ, pos, ◌+ℤ◌, neg_ℤ, List, Ok, Err, arith, ap, sym, subst}
+use Rattle.std.proofs.Common.{◌≡◌, ◌≤◌, ◌<◌, ◌^◌, ◌∙◌, inl, inr, ℕ, suc, ℤ, pos, ◌+ℤ◌, neg_ℤ, List, Ok, Err, arith, ap, sym, subst}
 use Rattle.std.proofs.Math.IntN.{◌-ℤ◌}
-use Rattle.stated_order.specs.First.{HoldsBelow, IsFirstFailure, IsFirstLowerFailure}
 use Rattle.stated_order.proofs.FirstLaws.{first_failure_is_one, first_failure_fails, first_failure_moves, first_lower_failure_moves, first_lower_failure_fails, first_lower_failure_is_one}
-use Rattle.whole_numbers.specs.Sum.{total_to}
 use Rattle.whole_numbers.specs.Scaling.{interval_scale10}
 use Rattle.whole_numbers.specs.Intervals.{Interval, interval_mul, size}
 use Rattle.whole_numbers.specs.Lists.{at}
@@ -13,7 +11,7 @@ use Rattle.whole_numbers.proofs.Sums.{total_to_same}
 use Rattle.sym_blocks.specs.Tables.{entry_at, zero_interval}
 use Rattle.equil.specs.Tables.{AreExponents, EntryFits, EntriesFit, working_entry}
 use Rattle.equil.proofs.Hundreds.{exponent_one}
-use Rattle.difference_products.specs.Products.{Factors, Place, difference_at, scaled_difference, row_sum, row_product, SumFits, ProductFits, AllFit, IsFirstUnfit, AreZero, AreProducts, IsUnfit, IsProduct, OneProduct}
+use Rattle.difference_products.specs.Products.{Factors, Place, difference_at, scaled_difference, row_sum, row_product, SumFits, ProductFits, AllFit, IsFirstUnfit, AreProducts, IsProduct, OneProduct}
 
 -- ---- the exponents of a table are one, and what is made with them is
 module _ (f : Factors) (e d : ℕ → ℤ) (same : (i : ℕ) → i < f.table.size → e i ≡ d i) where

@@ -1,5 +1,5 @@
 -- The product holds the exact one.
-use Rattle.std.proofs.Common.{◌≡◌, ◌<◌, ◌*◌, ◌^◌, ◌∙◌, inl, inr, ℕ, zero, suc, ℤ, pos, ◌+ℤ◌, ◌*ℤ◌, neg_ℤ, List, length, All, Ok, slice_index_or, replicate, arith, refl, ap, sym, subst}
+use Rattle.std.proofs.Common.{◌≡◌, ◌<◌, ◌*◌, ◌^◌, ◌∙◌, inl, inr, ℕ, zero, suc, ℤ, pos, ◌+ℤ◌, ◌*ℤ◌, neg_ℤ, List, length, All, slice_index_or, replicate, arith, refl, ap, sym, subst}
 use Rattle.std.proofs.Math.IntN.{◌-ℤ◌, zero-*ℤ}
 use Rattle.std.proofs.Math.Nat.{mul-pos}
 use Rattle.std.proofs.lemmas.Int.{ints}
@@ -20,7 +20,7 @@ use Rattle.sys_model.specs.Systems.{System, Fractions, row_by}
 use Rattle.sys_model.proofs.RescaledLaws.{rescaled_system, rescaled_fractions}
 use Rattle.sys_model.proofs.ScalingLaws.{ten_below_some, times_product, times_then, times_back, times_same, times_sum, holds_power}
 use Rattle.equil.specs.Tables.{working_entry}
-use Rattle.difference_products.specs.Products.{Factors, difference_at, scaled_difference, row_sum, row_product, AreZero, IsProduct}
+use Rattle.difference_products.specs.Products.{Factors, difference_at, scaled_difference, row_sum, row_product, AreZero}
 use Rattle.difference_products.specs.Exact.{HoldFactors, ProductHolds}
 
 -- ---- fractions times powers

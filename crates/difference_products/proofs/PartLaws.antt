@@ -9,7 +9,7 @@ use Rattle.whole_numbers.specs.Intervals.{Interval, size, interval_mul}
 use Rattle.whole_numbers.proofs.IntervalLaws.{sum_intervals_same}
 use Rattle.sym_blocks.specs.Tables.{SymTable, entry_at, zero_interval}
 use Rattle.equil.specs.Tables.{EntriesFit, exponent_of, working_entry}
-use Rattle.difference_products.specs.Products.{Place, scaled_difference, row_sum, row_product, ProductFits, AreZero, AreProducts, IsUnfit, IsProduct}
+use Rattle.difference_products.specs.Products.{Place, row_sum, row_product, ProductFits, AreZero, AreProducts, IsUnfit, IsProduct}
 use Rattle.difference_products.specs.Answers.{factors_of, IfRange}
 use Rattle.difference_products.specs.Parts.{OnDiagonal, interval_of, IsWorkingTable, scaled_of, AreScaledTo, IsFirstFar, AreSmall, sum_of_row, product_of_row, RowFits, AreProductsTo}
 use Rattle.difference_products.specs.declared.ProductError.{ProductError}

@@ -1,5 +1,5 @@
 use Rattle.std.proofs.Common.{refl}
-use Rattle.difference_products.proofs.DifferenceLaws.{first_far, room_more, scaled_push}
+use Rattle.difference_products.proofs.DifferenceLaws.{first_far}
 use Rattle.difference_products.proofs.scaled.scaled_differences.Goals as goal
 
 pub returns-in-None-clause-far : goal.returns-in-None-clause-far

@@ -1,4 +1,4 @@
-use Rattle.std.proofs.Common.{◌≡◌, ◌<◌, ◌∷◌, [], ◌∙◌, ℕ, zero, suc, ℤ, pos, length, slice_index_or, arith, sym}
+use Rattle.std.proofs.Common.{◌≡◌, ◌<◌, ◌∷◌, [], ◌∙◌, ℕ, zero, suc, ℤ, pos, slice_index_or, arith, sym}
 use Rattle.std.proofs.lemmas.Int.{ints}
 use Rattle.param_ids.specs.Tables.{IsScale}
 use Rattle.difference_products.proofs.tests.answer.Goals as goal
