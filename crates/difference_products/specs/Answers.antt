@@ -1,5 +1,5 @@
 -- What the call answers.
-use Rattle.std.specs.Prelude.{ℤ, ℕ, List}
+use Rattle.std.specs.Prelude.{ℤ, List}
 use Rattle.whole_numbers.specs.Intervals.{Interval}
 use Rattle.sym_blocks.specs.Tables.{SymTable}
 use Rattle.difference_products.specs.Products.{Factors, Place}

@@ -1,3 +1,4 @@
 pub mod Answers
 pub mod Exact
+pub mod Parts
 pub mod Products

@@ -1,0 +1,5 @@
+pub mod Alone
+pub mod DifferenceLaws
+pub mod HoldLaws
+pub mod PartLaws
+pub mod SumLaws
