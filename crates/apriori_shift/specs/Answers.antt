@@ -1,5 +1,5 @@
 -- What the calls hold and answer.
-use Rattle.std.specs.Prelude.{◌≡◌, ℕ, List, Option}
+use Rattle.std.specs.Prelude.{◌≡◌, List}
 use Rattle.std.specs.BTreeMap.{BTreeMap, get}
 use Rattle.std.specs.Net.Reader.{map_or}
 use Rattle.decimal_e.specs.Decimals.{Decimal}

@@ -1,5 +1,5 @@
 -- Exact systems at other a priori values. Fractions are compared by cross-multiplication, so nothing is rounded.
-use Rattle.std.specs.Prelude.{◌≡◌, ◌<◌, ◌*◌, ℕ, ℤ, pos, ◌+ℤ◌, ◌-ℤ◌, ◌*ℤ◌, List, map, Contains, Ok}
+use Rattle.std.specs.Prelude.{◌≡◌, ◌<◌, ◌*◌, ℕ, ℤ, pos, ◌-ℤ◌, ◌*ℤ◌, List, map, Contains, Ok}
 use Rattle.stated_order.specs.Steps.{HasOne}
 use Rattle.param_ids.specs.Plain.{PlainId}
 use Rattle.decimal_e.specs.Decimals.{Decimal}

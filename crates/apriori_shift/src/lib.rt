@@ -6,6 +6,8 @@ ghost use Rattle.apriori_shift.specs.Shifts.{OneShift};
 ghost use Rattle.apriori_shift.specs.Moves.{ShiftHolds, SystemsMove, MultiplesMove};
 
 mod commons;
+mod differences;
+mod rights;
 mod shifting;
 
 pub use commons::{Apriori, CommonError, common};

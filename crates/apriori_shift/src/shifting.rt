@@ -8,10 +8,13 @@ ghost use Rattle.neq_stack.specs.ByName.{AreAtMost};
 ghost use Rattle.neq_stack.specs.Neqs.{IsSound, neq_view};
 ghost use Rattle.apriori_shift.specs.Shifts.{IsShift};
 ghost use Rattle.apriori_shift.specs.Answers.{common_value, IfRange};
+ghost use Rattle.apriori_shift.specs.declared.shifting.ShiftError.TheVariants.{Memory};
 
 use crate::commons::Apriori;
+use crate::differences::{are_same, values_of};
+use crate::rights::right_at;
 use neq_stack::Neq;
-use std::alloc::Global;
+use std::alloc::{AllocError, Global};
 use thiserror::Error;
 
 /// Why normal equations are not brought to other a priori values.
@@ -24,6 +27,14 @@ pub enum ShiftError {
     /// Memory is wanting.
     #[error("out of memory")]
     Memory,
+}
+
+impl From<AllocError> for ShiftError {
+    ghost from_gives = { λ _ r. r ≡ Memory };
+
+    fn from(_refusal: AllocError) -> ShiftError {
+        ShiftError::Memory
+    }
 }
 
 /// Brings normal equations to common a priori values: the right side becomes itself less the matrix times the differences, common value
@@ -48,5 +59,12 @@ pub fn shift<const N: usize>(
     ensures sound { IsSound (neq_view neq.new) }
     ensures modest { (most : ℕ) → AreAtMost most (neq_view neq.old) → AreAtMost (most + 10 ^ 34) (neq_view neq.new) }
 {
-    Err(ShiftError::Memory)
+    let values = values_of(alloc, &neq.names, base)?;
+    if are_same(&values, &neq.apriori) {
+        return Ok(());
+    }
+    let right = right_at(alloc, neq, &values)?;
+    neq.right = right;
+    neq.apriori = values;
+    Ok(())
 }

@@ -1,0 +1,9 @@
+pub mod Alone
+pub mod CommonLaws
+pub mod DifferenceLaws
+pub mod FractionLaws
+pub mod HoldLaws
+pub mod MoveLaws
+pub mod RightLaws
+pub mod ShiftLaws
+pub mod WordLaws
