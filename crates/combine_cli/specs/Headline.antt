@@ -1,5 +1,5 @@
 -- What a run that wrote its report promises.
-use Rattle.std.specs.Prelude.{◌≡◌, ℕ, List, ◌∷◌, [], map, length, Some, None, Option, Ok}
+use Rattle.std.specs.Prelude.{◌≡◌, ℕ, true, List, ◌∷◌, [], map, length, Some, None, Option, Ok}
 use Rattle.stated_order.specs.Lists.{AreEach}
 use Rattle.desk_io.specs.Content.{File}
 use Rattle.desk_io.specs.Outputs.{NamedText}

@@ -1,5 +1,5 @@
 -- Worked values, at which the laws of src/laws.rt tie the definitions.
-use Rattle.std.specs.Prelude.{◌∷◌, ℕ, ℤ, pos, negsuc, [], Some, None, codes, if◌then◌else◌}
+use Rattle.std.specs.Prelude.{◌∷◌, ℕ, ℤ, pos, negsuc, [], Some, None, List, codes, if◌then◌else◌}
 use Rattle.decimal_e.specs.Decimals.{Decimal}
 use Rattle.snx_epoch.specs.declared.Epoch.TheVariants.{Never}
 use Rattle.param_ids.specs.Plain.{PlainId}
@@ -37,17 +37,21 @@ half = record { mant = pos 5; exp = negsuc 0 }
 abbrev pub whole : ℕ → Decimal
 whole n = record { mant = pos n; exp = pos 0 }
 
--- a normal equation N (x - .1E+01) = b
-abbrev pub equation : Decimal → Decimal → PlainDoc
-equation matrix vector = record empty_doc {
-  apriori = Some (worked_row one ∷ []);
+-- 1.3
+abbrev pub one_and_three_tenths : Decimal
+one_and_three_tenths = record { mant = pos 13; exp = negsuc 0 }
+
+-- a normal equation N (x - value) = b
+abbrev pub equation : Decimal → Decimal → Decimal → PlainDoc
+equation value matrix vector = record empty_doc {
+  apriori = Some (worked_row value ∷ []);
   vector = Some (worked_row vector ∷ []);
   normal_matrix = Some (record { content = Info; cells = record { row = 0; col = 0; value = matrix } ∷ [] });
 }
 
 -- the normal equation .4E+04 (x - .1E+01) = .25
 abbrev pub worked_document : PlainDoc
-worked_document = equation four_thousand quarter
+worked_document = equation one four_thousand quarter
 
 -- the same as whole numbers over 4, by name
 abbrev pub at_worked : PlainId → ℤ → ℤ
@@ -56,9 +60,9 @@ at_worked id value = if is_same_id worked_name id then value else pos 0
 abbrev pub worked_system : NamedSystem
 worked_system = record { q = 4; a = λ one other. at_worked one (at_worked other (pos 16000)); c = λ id. at_worked id (pos 1) }
 
--- a file with the normal equation matrix (x - .1E+01) = vector
-abbrev pub worked_input : ℕ → ℕ → PlainInput
-worked_input matrix vector = record { plan = alone_plan (codes "in"); size = 0; doc = equation (whole matrix) (whole vector) }
+-- a file of this name with the normal equation matrix (x - value) = vector
+abbrev pub worked_file : List ℕ → Decimal → ℕ → ℕ → PlainInput
+worked_file name value matrix vector = record { plan = alone_plan name; size = 0; doc = equation value (whole matrix) (whole vector) }
 
 -- a printed row with these bounds, in units of 10^-16
 abbrev pub bounded_by : ℤ → ℤ → Printed

@@ -56,11 +56,7 @@ fn counted_files<'a>(
 }
 
 // The common a priori values of the files, or the refusal of a name with two units. Each row of a file has one of its name among them.
-pub fn common_of(
-    alloc: Global,
-    reference: &str,
-    inputs: &[Input<'_>],
-) -> Result<Apriori, Refusal>
+pub fn common_of(alloc: Global, reference: &str, inputs: &[Input<'_>]) -> Result<Apriori, Refusal>
     requires valid { All (λ input. IsValid (doc_view input.doc)) inputs.now }
     ensures common { IfOk result (λ base. HaveCommon reference.now (map input_view inputs.now) (Ok (counted_rows reference.now (map input_view inputs.now)))) }
     ensures first { IfOk result (λ base. HasFirstRows base (counted_rows reference.now (map input_view inputs.now))) }

@@ -22,9 +22,9 @@ pub fn with_datum(alloc: Global, datum: Option<&Datum>, neq: &mut Neq<16>) -> Re
     requires sound { IsSound (neq_view neq.old) }
     requires modest { AreAtMost (64 * 10 ^ 36) (neq_view neq.old) }
     requires positive { IfSome datum (λ given. HasPositiveSigmas (datum_view given.now)) }
-    ensures added { IfOk result (λ done. AddsDatum (option_map (λ given. datum_view given.now) datum) (neq_view neq.old) (Ok (neq_view neq.new))) }
+    ensures added { IfOk result (λ done. AddsDatum (option_map (λ given. datum_view given.now) datum.entry) (neq_view neq.old) (Ok (neq_view neq.new))) }
     ensures sound { IsSound (neq_view neq.new) }
-    ensures refused { IfErr result (IfTold (λ refusal. AddsDatum (option_map (λ given. datum_view given.now) datum) (neq_view neq.old) (Err refusal))) }
+    ensures refused { IfErr result (IfTold (λ refusal. AddsDatum (option_map (λ given. datum_view given.now) datum.entry) (neq_view neq.old) (Err refusal))) }
     ensures no_fault { IfErr result (λ refusal. status_of refusal ≢ 5) }
 {
     let Some(datum) = datum else {

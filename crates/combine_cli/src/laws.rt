@@ -23,7 +23,7 @@ ghost use Rattle.combine_cli.specs.Causes.{refusal_of_recovery};
 ghost use Rattle.combine_cli.specs.Headline.{IsExactOf};
 ghost use Rattle.combine_cli.specs.Runs.{StoppedAt};
 ghost use Rattle.combine_cli.specs.Verdict.{Outcome, IsVerdict};
-ghost use Rattle.combine_cli.specs.Worked.{one, half, worked_name, worked_document, worked_system, worked_input, bounded_by};
+ghost use Rattle.combine_cli.specs.Worked.{one, half, one_and_three_tenths, worked_name, worked_document, worked_system, worked_file, bounded_by};
 
 /// The bounds of a row are inequalities: 1 + 1/2 lies between 1.5 and 1.5, and neither above a lower bound that is greater by one
 /// unit nor below an upper bound that is less by one. Numbers that are certified keep them in each row, the first among them,
@@ -48,11 +48,20 @@ pub fn exact_systems_are_as_written()
     ensures weighted_vector { (S : NamedSystem) → IsExact worked_document half S → S.c worked_name *ℤ pos 8 ≡ pos S.q }
 {}
 
-/// The exact systems of two files with the matrices .4E+01 and .3E+01 and the right sides .2E+01 and .1E+01 over one name are those
-/// of 7 x = 3.
+/// The exact systems of two files with the matrices .4E+01 and .3E+01 and the right sides .2E+01 and .1E+01 over one name, whose a
+/// priori value is .1E+01 in both, are those of 7 x = 3.
 pub fn files_are_added()
-    ensures matrix { (S : NamedSystem) → IsExactOf (worked_input 4 2 ∷ worked_input 3 1 ∷ []) S → S.a worked_name worked_name ≡ pos 7 *ℤ pos S.q }
-    ensures vector { (S : NamedSystem) → IsExactOf (worked_input 4 2 ∷ worked_input 3 1 ∷ []) S → S.c worked_name ≡ pos 3 *ℤ pos S.q }
+    ensures matrix { (S : NamedSystem) → IsExactOf [] (worked_file (codes "a") one 4 2 ∷ worked_file (codes "b") one 3 1 ∷ []) S → S.a worked_name worked_name ≡ pos 7 *ℤ pos S.q }
+    ensures vector { (S : NamedSystem) → IsExactOf [] (worked_file (codes "a") one 4 2 ∷ worked_file (codes "b") one 3 1 ∷ []) S → S.c worked_name ≡ pos 3 *ℤ pos S.q }
+{}
+
+/// The exact systems of two files with the matrix .4E+01 and the right side .2E+01 over one name, whose a priori value is .1E+01 in the
+/// first and 1.3 in the second, are those of 8 x = 5.2 at the value of the first; and with the second as reference those of 8 x = 2.8 at
+/// its value.
+pub fn files_are_moved()
+    ensures matrix { (S : NamedSystem) → IsExactOf [] (worked_file (codes "a") one 4 2 ∷ worked_file (codes "b") one_and_three_tenths 4 2 ∷ []) S → S.a worked_name worked_name ≡ pos 8 *ℤ pos S.q }
+    ensures vector { (S : NamedSystem) → IsExactOf [] (worked_file (codes "a") one 4 2 ∷ worked_file (codes "b") one_and_three_tenths 4 2 ∷ []) S → S.c worked_name *ℤ pos 5 ≡ pos 26 *ℤ pos S.q }
+    ensures referred { (S : NamedSystem) → IsExactOf (codes "b") (worked_file (codes "a") one 4 2 ∷ worked_file (codes "b") one_and_three_tenths 4 2 ∷ []) S → S.c worked_name *ℤ pos 5 ≡ pos 14 *ℤ pos S.q }
 {}
 
 /// Where a run stopped, an output's file that was not there before holds a beginning of the output's text. Where the second of
@@ -79,6 +88,8 @@ pub fn refusals_are_told()
     ensures unbuilt { line_of (refusal_of_recovery forms.Auto (codes "in") (recovery.MissingBlock sections.NormalMatrix)) ≡ codes "snxcomb: unbuilt in\n" }
     ensures unmatched { line_of (refusal_of_recovery forms.Auto (codes "in") (recovery.Unmatched worked_name)) ≡ codes "snxcomb: unmatched file:in STAX/ABCD/A/1/00:000:00000\n" }
     ensures empty { line_of (refusal_of_recovery forms.Auto (codes "in") recovery.Empty) ≡ codes "snxcomb: empty file:in\n" }
+    ensures unit { line_of (refusals.UnitClash worked_name) ≡ codes "snxcomb: unit STAX/ABCD/A/1/00:000:00000\n" }
+    ensures site { line_of (refusals.UnmatchedSite (record { code = codes "AAAA"; point = codes "A "; soln = codes "1   " })) ≡ codes "snxcomb: unmatched site AAAA/A/1\n" }
     ensures range { line_of (refusals.Range (places.File (codes "in")) worked_name worked_name)
         ≡ codes "snxcomb: range file:in STAX/ABCD/A/1/00:000:00000 STAX/ABCD/A/1/00:000:00000\n" }
     ensures pivot { line_of (refusals.Pivot places.Stack worked_name) ≡ codes "snxcomb: pivot stack STAX/ABCD/A/1/00:000:00000\n" }

@@ -1,8 +1,8 @@
 //! The top call: from the words of a command and the files of a desk to the files that it leaves and its status.
 #![tactic(auto)]
 
-mod commons;
 mod combining;
+mod commons;
 mod datum;
 mod decide;
 mod groups;
@@ -16,7 +16,7 @@ mod top;
 pub use combining::{Combined, combine_core};
 pub use laws::{
     alike_controls, bounds_hold_their_solutions, exact_systems_are_as_written, files_are_added,
-    refusals_are_told, stopped_outputs_are_fronts,
+    files_are_moved, refusals_are_told, stopped_outputs_are_fronts,
 };
 pub use refusal_lines::{Name, Refusal, Scope, line, status};
 pub use top::run;

@@ -126,12 +126,7 @@ fn refusal_of_shift(name: Name, names: &Names, row: usize, col: usize) -> Refusa
 }
 
 // Brings the normal equations of a file to the common values, or says why they are not brought there.
-fn shifted(
-    alloc: Global,
-    plan: &FilePlan,
-    base: &Apriori,
-    neq: &mut Neq<16>,
-) -> Result<(), Refusal>
+fn shifted(alloc: Global, plan: &FilePlan, base: &Apriori, neq: &mut Neq<16>) -> Result<(), Refusal>
     requires sound { IsSound (neq_view neq.old) }
     requires modest { AreAtMost (10 ^ 34) (neq_view neq.old) }
     requires known { All (λ id. IsSome (get id_cmp base.now id)) neq.old.names }
