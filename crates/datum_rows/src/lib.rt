@@ -10,8 +10,15 @@ ghost use Rattle.datum_rows.specs.Additions.{IsAddition, OneAddition};
 ghost use Rattle.datum_rows.specs.Answers.{IfFault};
 ghost use Rattle.datum_rows.specs.Exact.{DatumHolds, DatumExists, DatumMultiples};
 
+mod motions;
+mod rows;
+mod sites;
+
 use control_doc::{Datum, Site};
+use motions::conditions;
 use neq_stack::Neq;
+use rows::{add_all, first_misfit};
+use sites::{coordinates, unmatched};
 use std::alloc::Global;
 use thiserror::Error;
 
@@ -52,7 +59,23 @@ pub fn add_datum<const N: usize>(
     ensures sound { IsSound (neq_view neq.new) }
     ensures modest { (most : ℕ) → AreAtMost most (neq_view neq.old) → AreAtMost (most + 7 * 10 ^ 34) (neq_view neq.new) }
 {
-    Err(DatumError::Memory)
+    if let Some(site) = unmatched(&neq.names, &datum.sites) {
+        return Err(DatumError::Unmatched { site });
+    }
+    let Ok(coordinates) = coordinates(alloc, neq, &datum.sites) else {
+        return Err(DatumError::Memory);
+    };
+    let Ok(conditions) = conditions(alloc, datum) else {
+        return Err(DatumError::Memory);
+    };
+    if let Some(place) = first_misfit(&coordinates, &neq.scales, &conditions) {
+        return Err(DatumError::Range {
+            row: place.row,
+            col: place.col,
+        });
+    }
+    add_all(&mut neq.table, &coordinates, &neq.scales, &conditions);
+    Ok(())
 }
 
 /// A datum is added in one way or has one first fault, it has an exact system, and what lies in normal equations lies, with the system of

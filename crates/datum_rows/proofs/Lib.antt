@@ -1,0 +1,12 @@
+pub mod SameLaws
+pub mod ZeroLaws
+pub mod ListLaws
+pub mod NamedRows
+pub mod RowLaws
+pub mod Sigmas
+pub mod SiteLaws
+pub mod KeptLaws
+pub mod AdditionLaws
+pub mod Alone
+pub mod ExistLaws
+pub mod HoldLaws
