@@ -5,7 +5,8 @@
     combinations.py NAME FOLDER   writes the files of the combination of this name into a folder
 
 What a run wants is the text of its refusal after 'snxcomb: ', or its report, worked by hand; or nothing, and then
-tools/combine.py alone says what comes. tools/check_program.py runs the built program over all of them.
+tools/combine.py alone says what comes. The bounds of each report of a few lines must hold the solution of the exact system, which
+tools/exact.py has in fractions. tools/check_program.py runs the built program over all of them.
 """
 
 import random
@@ -16,9 +17,12 @@ from pathlib import Path
 
 import combine
 import control_files
+import exact
 from document_builders import EXAMPLES, NORMAL, ONE_NAME, bare, block, joined, row, strip, whole
 
 WORDS = ["combine", "control", "out", "report"]
+# reports of at most so many lines are compared with the exact solution
+MOST_EXACT = 40
 HEADER = '[output]\nagency = "XYZ"\ncreated = "24:002:00000"\n'
 
 
@@ -36,7 +40,10 @@ class Run:
 
     def is_as_wanted(self):
         _, line, made = self.answer
-        return self.wants is None or self.wants == made.get("report") or line == f"snxcomb: {self.wants}\n"
+        if self.wants is not None and self.wants != made.get("report") and line != f"snxcomb: {self.wants}\n":
+            return False
+        report = made.get("report")
+        return report is None or report.count("\n") > MOST_EXACT or exact.holds(self.files, self.words, report)
 
 
 # ---- builders
@@ -129,18 +136,12 @@ def refusals():
         yield three(f"a listed file is also {name}", control(entry("a"), entry(name)), f"control samename {name}")
     yield three("two listed files are outputs", control(entry("report"), entry("out")), "control samename report")
     yield three("a fault before one name for two", control(entry("a"), entry("out"), rest="x = 1\n"), "control key file.1.x")
-    yield three("a datum", control(*map(entry, "abc"), rest='[datum]\nsites = [["ABCD", "A", "1"]]\nscale = "1"\n'), "unbuilt control")
     yield three("a reduction", control(*map(entry, "abc"), rest='[[reduce]]\nat = "end"\nparam = ["STAX", "ABCD", "A", "1", "24:001:00000"]\n'), "unbuilt control")
-    yield three("one name for two before a datum", control(entry("out"), rest='[datum]\nsites = [["ABCD", "A", "1"]]\nscale = "1"\n'), "control samename out")
+    yield three("one name for two before a reduction", control(entry("out"), rest='[[reduce]]\nat = "end"\nparam = ["STAX", "ABCD", "A", "1", "24:001:00000"]\n'), "control samename out")
     yield three("a file isn't there", control(entry("a"), entry("d")), "no file d")
     yield three("the first by name isn't there", control(entry("e"), entry("d")), "no file d")
     yield three("a bad line before a file that isn't there", control(entry("d"), entry("c")), "c:2 WrongEnd", c=b"%=SNX 2.02\n-X\n")
     yield three("a bad line after a file that isn't there", control(entry("c"), entry("b2")), "no file b2", c=b"%=SNX 2.02\n-X\n")
-    yield three("another a priori value", control(*map(entry, "abc")), "unbuilt b", b=one("3", "1", "1.3"))
-    yield three("another unit", control(*map(entry, "abc")), "unbuilt c", c=one("1", "0", unit="mm"))
-    yield three("another value, and a block that is missing before", control(*map(entry, "abc")), "unbuilt b", a=joined(whole(block("SOLUTION/APRIORI", row(1, "STAX", "ABCD", "1")))), b=one("3", "1", "1.3"))
-    yield three("the value written otherwise", control(*map(entry, "abc")), THREE_REPORT, b=one("3", "1", "0.1D+01"))
-    yield three("a row of a priori values alone clashes", control(*map(entry, "abc")), "unbuilt c", a=neq({STAX: "1", STAY: "1"}, {STAX: "2"}, {(STAX, STAX): "4"}), c=neq({STAX: "1", STAY: "2"}, {STAX: "0"}, {(STAX, STAX): "1"}))
     yield three("a file without a priori values", control(*map(entry, "abc")), "block file:b SOLUTION/APRIORI", b=joined(whole()))
     yield three("a file without a right side", control(*map(entry, "abc")), "unbuilt b", b=joined(whole(block("SOLUTION/APRIORI", row(1, "STAX", "ABCD", "1")))))
     bare_apriori = joined(whole(block("SOLUTION/APRIORI", row(1, "STAX", "ABCD", "1"))))
@@ -159,6 +160,153 @@ def refusals():
     yield three("the names differ by their moment", control(*map(entry, "abc")), None, c=one("3", "1", name=named(epoch="24:001:00001")))
     for words in (["combine"], ["combine", "control", "out"], ["combine", "control", "out", "out"], ["combine", "control", "control", "report"], ["combine", "control", "out", "control"], [*WORDS, "more"], ["combined", *WORDS[1:]]):
         yield Run(f"the words {' '.join(words)}", {**THREE, "control": control(entry("a"))}, "words", words)
+
+
+# ---- common a priori values
+
+MOVED = {"a": one("4", "2"), "b": one("4", "2", "1.3")}
+MOVED_REPORT = report_of("1.6500000000000000", "1.6500000000000000")
+BOTH = f"{ONE_NAME} {ONE_NAME}"
+
+
+def pair(what, wants=None, rest="", **files):
+    """Files in the order of their names."""
+    return Run(what, {**files, "control": control(*map(entry, sorted(files)), rest=rest)}, wants)
+
+
+def values():
+    yield pair("the values of the first file by name", MOVED_REPORT, **MOVED)
+    yield Run("the values of the first file by name, listed last", {**MOVED, "control": control(entry("b"), entry("a"))}, MOVED_REPORT)
+    yield pair("the values of the reference", MOVED_REPORT, '[run]\nreference = "b"\n', **MOVED)
+    yield pair("a reference that is not listed", "control value run.reference", '[run]\nreference = "c"\n', **MOVED)
+    yield pair("the values of a reference that adds nothing", MOVED_REPORT, '[run]\nreference = "c"\n', **MOVED, c=one("0", "0", "1.6"))
+    yield three("the value written otherwise", control(*map(entry, "abc")), THREE_REPORT, b=one("3", "1", "0.1D+01"))
+    yield pair("values written otherwise", report_of("1.5000000000000000", "1.5000000000000000"), a=one("4", "2", "0.1D+01"), b=one("4", "2", "1.0E0"))
+    yield pair("two units", f"unit {ONE_NAME}", a=one("4", "2"), b=one("4", "2", unit="mm"))
+    two = {STAX: "1", STAY: "1"}
+    diagonal = {(STAX, STAX): "4", (STAY, STAY): "4"}
+    yield pair("two units, the least name", f"unit {ONE_NAME}", a=neq(two, two, diagonal), b=neq({STAY: "1", STAX: "1"}, two, diagonal, unit="mm"))
+    yield pair("two units of a row without a right side", "unit STAY/ABCD/A/1/24:001:00000", a=one("4", "2"), b=neq(two, {STAX: "2"}, {(STAX, STAX): "4"}), c=neq({STAY: "1"}, {STAY: "1"}, {(STAY, STAY): "1"}, unit="mm"))
+    yield pair("two units before a block that is missing", f"unit {ONE_NAME}", a=joined(whole(block("SOLUTION/APRIORI", row(1, "STAX", "ABCD", "1")))), b=one("4", "2", unit="mm"))
+    yield pair("a bad line before two units", "b:2 WrongEnd", a=one("4", "2"), b=b"%=SNX 2.02\n-X\n", c=one("4", "2", unit="mm"))
+    yield pair("the value of a row without a right side counts", None, a=neq({STAX: "1", STAY: "1.5"}, {STAX: "2"}, {(STAX, STAX): "4"}), b=neq(two, two, {**diagonal, (STAX, STAY): "-1"}))
+    yield pair("three values", None, a=one("4", "2"), b=one("4", "2", "1.3"), c=one("1", "1", "-.7"))
+    yield Run("a weighted file that is moved", {**MOVED, "control": control(entry("a"), entry("b", weight="0.25"))}, report_of("1.5600000000000000", "1.5600000000000000"))
+    yield pair("far values", None, a=one("4", "2", "1E+12"), b=one("4", "2", "-1E+12"))
+    yield pair("a value that is no decimal of 20 places", None, a=one("4E+02", "2", "1"), b=one("4E+02", "2", "1.123456789012345E-09"))
+    yield pair("an element far above its diagonal", f"range file:b STAY/ABCD/A/1/24:001:00000 {ONE_NAME}", a=neq(two, two, diagonal), b=neq({STAX: "2", STAY: "1"}, two, {(STAX, STAX): "1E-13", (STAY, STAY): "1E-13", (STAX, STAY): "9"}))
+    yield pair("differences too great for their matrix", f"range file:b {BOTH}", a=one("4E+15", "2", "1E+12"), b=one("4E+15", "2", "-1E+12"))
+    yield pair("a product past its bound", f"range file:b {BOTH}", a=one("4E+09", "2", "5E+06"), b=one("4E+09", "2", "-5E+06"))
+    yield pair("the second row passes its bound", "range file:b STAY/ABCD/A/1/24:001:00000 STAY/ABCD/A/1/24:001:00000", a=neq(two, two, diagonal), b=neq({STAX: "1", STAY: "1E+12"}, two, {(STAX, STAX): "1", (STAY, STAY): "4E+15"}))
+    yield pair("nothing is tested where nothing is moved", None, a=one("4", "2"), b=neq(two, two, {(STAX, STAX): "1E-13", (STAY, STAY): "4", (STAX, STAY): "9E-03"}))
+    yield pair("a right ascension is moved", None, a=one("4E+12", "2E+3", "1.25", name=named("RS_RA")), b=one("5E+12", "1E+3", "1.2500000001", name=named("RS_RA")))
+
+
+# ---- datum rows
+
+STATIONS = {"AAAA": ("4000000", "1000000", "4800000"), "BBBB": ("3000000", "2000000", "5000000"), "CCCC": ("4500000", "-1000000", "4300000")}
+AXES = ("STAX", "STAY", "STAZ")
+
+
+def free_network(stations=STATIONS, weight=1, left_out=(), vector=lambda name: "0", epochs=None):
+    """Normal equations of differences of stations, axis by axis: 2,000,000 on the diagonal of three, -1,000,000 between two."""
+    values = {named(axis, code, **(epochs or {}).get((axis, code), {})): value for code, texts in stations.items() for axis, value in zip(AXES, texts) if (axis, code) not in left_out}
+    names = sorted(values)
+    matrix = {}
+    for k, name in enumerate(names):
+        others = [other for other in names if dict(other)["kind"] == dict(name)["kind"] and other != name]
+        matrix[name, name] = f"{1000000 * weight * len(others)}"
+        for other in names[:k]:
+            if other in others:
+                matrix[name, other] = f"-{1000000 * weight}"
+    return neq({name: values[name] for name in names}, {name: vector(name) for name in names}, matrix)
+
+
+def datum(sites="AAAA BBBB CCCC", point="A", solution="1", **sigmas):
+    lists = ", ".join(f'["{code}", "{point}", "{solution}"]' for code in sites.split())
+    return f"[datum]\nsites = [{lists}]\n" + "".join(f'{key} = "{value}"\n' for key, value in sigmas.items())
+
+
+ALL = {"translation": "0.001", "rotation": "0.001", "scale": "0.001"}
+
+
+def held(what, rest, wants=None, **files):
+    return Run(what, {**files, "control": control(*map(entry, sorted(files)), rest=rest)}, wants)
+
+
+def stations_report():
+    rows = sorted(((axis, code, value) for code, texts in STATIONS.items() for axis, value in zip(AXES, texts)), key=lambda it: it[:2])
+    found = combine.verdict(WORDS, {"a": free_network(), "control": control(entry("a"), rest=datum(**ALL))})[2]["report"].splitlines()
+    lines = [f"{k:6} {axis}   {code}  A    1 24:001:00000 m    {value}.{0:016} {value}.{0:016} 0E{line.rsplit('E', 1)[1]}" for (k, (axis, code, value)), line in zip(enumerate(rows, 1), found[2:])]
+    assert " M=0 " in found[1]
+    return "\n".join(["SNXCOMB BOUNDS 1", found[1], *lines, "END", ""])
+
+
+def data():
+    free = free_network()
+    yield Run("a free network has no pivot", {"a": free}, "pivot stack STAX/CCCC/A/1/24:001:00000", ["solve", "a", "report"])
+    yield held("a free network without a datum", "", "pivot stack STAX/CCCC/A/1/24:001:00000", a=free)
+    yield held("a free network with all rows", datum(**ALL), stations_report(), a=free)
+    yield held("a free network in two files", datum(**ALL), None, a=free, b=free_network(weight=3))
+    for kind in ALL:
+        yield held(f"a free network with {kind} alone", datum(**{kind: "0.001"}), None, a=free)
+    yield held("one site", datum("BBBB", **ALL), None, a=free)
+    yield held("two sites, listed last first", datum("CCCC AAAA", **ALL), None, a=free)
+    yield held("sigmas of their own", datum(translation="0.01", rotation="2E-3", scale=".005"), None, a=free)
+    yield held("a site without its height", datum(**ALL), "unmatched site AAAA/A/1", a=free_network(left_out={("STAZ", "AAAA")}))
+    yield held("the first site that is not there", datum("BBBB DDDD EEEE", **ALL), "unmatched site DDDD/A/1", a=free)
+    yield held("another solution", datum(solution="2", **ALL), "unmatched site AAAA/A/2", a=free)
+    yield held("a solution with leading zeros", datum(solution="0001", **ALL), stations_report(), a=free)
+    yield held("another point", datum(point="B", **ALL), "unmatched site AAAA/B/1", a=free)
+    twice = neq({named(): "1", named(epoch="24:002:00000"): "1", STAY: "1", STAZ: "1"}, {named(): "1", named(epoch="24:002:00000"): "1", STAY: "1", STAZ: "1"}, {(name, name): "4" for name in (named(), named(epoch="24:002:00000"), STAY, STAZ)})
+    yield held("a coordinate of two moments", datum("ABCD", translation="1"), "unmatched site ABCD/A/1", a=twice)
+    yield held("coordinates of different moments", datum(**ALL), None, a=free_network(epochs={("STAY", "BBBB"): {"epoch": "24:002:00000"}}))
+    yield held("two units before a site that is not there", datum("DDDD", **ALL), f"unit {ONE_NAME}", a=one("4", "2"), b=one("4", "2", unit="mm"))
+    yield held("a missing block before a site that is not there", datum("DDDD", **ALL), "block file:b SOLUTION/APRIORI", a=free, b=joined(whole()))
+    yield held("too many names before a site that is not there", datum("DDDD", **ALL), "too many stack 1001", a=many("A", 501), b=many("B", 500))
+    yield held("a site that is not there before the rules", datum("DDDD", **ALL), "unmatched site DDDD/A/1", a=one("0", "0"))
+    yield held("a sigma too small for translation", datum(translation="1E-9"), "range stack STAX/AAAA/A/1/24:001:00000 STAX/AAAA/A/1/24:001:00000", a=free)
+    yield held("a sigma too small for rotation", datum(translation="1", rotation="1E-9"), "range stack STAY/AAAA/A/1/24:001:00000 STAY/AAAA/A/1/24:001:00000", a=free)
+    yield held("a sigma too small for scale", datum(scale="1E-9"), "range stack STAX/AAAA/A/1/24:001:00000 STAX/AAAA/A/1/24:001:00000", a=free)
+    yield held("the greatest sigmas", datum(translation="999999999E+60", rotation="1E+60", scale="1E+60"), "pivot stack STAX/CCCC/A/1/24:001:00000", a=free)
+    yield held("sigmas that tighten nothing", datum(translation="1000", rotation="1E+5", scale="1E+5"), None, a=free)
+    yield held("tight sigmas", datum(translation="1E-5", rotation="1E-5", scale="1E-5"), None, a=free)
+    yield held("positions that are not whole", datum(**ALL), None, a=free_network({code: tuple(value + ".75" for value in texts) for code, texts in STATIONS.items()}))
+    yield held("negative positions that are not whole", datum(**ALL), None, a=free_network({code: tuple(str(-int(value)) + ".25" for value in texts) for code, texts in STATIONS.items()}))
+    moved = {code: tuple(f"{int(value) + shift}.0125" for value in texts) for shift, (code, texts) in enumerate(STATIONS.items())}
+    yield held("a datum at the common values", datum(**ALL), None, a=free, b=free_network(moved, weight=2))
+    yield held("a datum at the values of the reference", datum(**ALL) + '[run]\nreference = "b"\n', None, a=free, b=free_network(moved, weight=2))
+    yield held("scale exponents under a datum", datum(**ALL) + "[scale]\nSTAX = 2\nSTAZ = -1\n", None, a=free)
+
+
+# ---- free networks made by chance: other a priori values in each file, and a datum
+
+
+def free_chances():
+    rng = random.Random(20261213)
+    for number in range(24):
+        codes = ["GRAZ", "METS", "ONSA", "POTS", "WTZR", "ZIMM"][: rng.randint(3, 6)]
+        base = {code: [rng.randint(-6 * 10**6, 6 * 10**6) for _ in AXES] for code in codes}
+        files = {}
+        for k in range(rng.randint(2, 4)):
+            mine = sorted(rng.sample(codes, rng.randint(2, len(codes)))) if k else codes
+            stations = {code: tuple(f"{v}.{rng.randint(0, 30):04}" for v in base[code]) for code in mine}
+            files[f"f{k}"] = free_network(stations, rng.randint(1, 4), vector=lambda name: f"{rng.randint(-10**5, 10**5)}E-02")
+        entries = []
+        for name in rng.sample(list(files), len(files)):
+            more = {}
+            if rng.random() < 0.5:
+                more["weight"] = rng.choice(["0.5", "2", "1.25", "12.3456789"])
+            if rng.random() < 0.4:
+                more["group"] = rng.choice(["g", "h"])
+            entries.append(entry(name, **more))
+        sites = rng.sample(codes, rng.randint(3, len(codes)))
+        rest = datum(" ".join(sites), translation=rng.choice(["0.001", "0.005", "0.0123"]), rotation=rng.choice(["0.001", "0.01"]), scale=rng.choice(["0.002", "0.01"]))
+        if rng.random() < 0.5:
+            rest += f'[run]\nreference = "{rng.choice(list(files))}"\n'
+        if rng.random() < 0.3:
+            rest += "[scale]\nSTAX = 1\n"
+        yield Run(f"a free network made by chance, {number}", {**files, "control": control(*entries, rest=rest)})
 
 
 def many(prefix, count):
@@ -212,6 +360,9 @@ def examples():
     files = {path.name: path.read_bytes() for path in sorted((EXAMPLES / "combination").iterdir())}
     yield Run("the example", files, words=["combine", "control.toml", "combined.snx", "report.txt"])
     yield Run("one of its files", files, words=["solve", "north.snx", "report.txt"])
+    free = {path.name: path.read_bytes() for path in sorted((EXAMPLES / "free-network").iterdir())}
+    yield Run("the example of a free network", free, words=["combine", "control.toml", "combined.snx", "report.txt"])
+    yield Run("the example of a free network without a datum", free, "pivot stack STAY/ZIMM/A/1/24:003:43200", words=["combine", "no-datum.toml", "combined.snx", "report.txt"])
 
 
 def control_texts():
@@ -222,6 +373,9 @@ def control_texts():
 GROUPS = {
     "orders, groups and weights": orders,
     "refusals of combinations": refusals,
+    "common a priori values": values,
+    "datum rows": data,
+    "free networks made by chance": free_chances,
     "many names": sizes,
     "combinations made by chance": chances,
     "examples of combinations": examples,

@@ -10,7 +10,9 @@ tools/solve.py has the rules from a stack to its report.
 import sys
 from fractions import Fraction
 
+import apriori
 import control
+import datum
 import sinex
 import solve
 
@@ -50,7 +52,7 @@ def read_control(files, name, outputs):
     for plan in found.files:
         if plan.name in (name, *outputs):
             raise Refusal(3, f"control samename {plan.name}")
-    if found.datum or found.reductions:
+    if found.reductions:
         raise Refusal(3, f"unbuilt {name}")
     return found
 
@@ -68,14 +70,12 @@ def read_inputs(files, plans):
     return inputs
 
 
-def agree(inputs):
-    """Refuses the first file that has another a priori value or another unit for a name than a file before it."""
-    known = {}
-    for plan, document in inputs:
-        rows = document[sinex.APRIORI].rows if sinex.APRIORI in document else []
-        if any(known.get(row.name, (row.value, row.unit)) != (row.value, row.unit) for row in rows):
-            raise Refusal(3, f"unbuilt {plan.name}")
-        known.update({row.name: (row.value, row.unit) for row in rows})
+def common_values(inputs, reference):
+    """The common a priori value of each name."""
+    try:
+        return apriori.common(inputs, reference)
+    except apriori.TwoUnits as clash:
+        raise Refusal(3, f"unit {clash.args[0].text()}") from None
 
 
 class Part:
@@ -138,6 +138,20 @@ def recover(plan, document, scales):
     return part
 
 
+def shift(plan, part, values):
+    """The normal equations of a file at the common values."""
+    stack = Ordered(part)
+    new = [values[name] for name in stack.names]
+    try:
+        right = apriori.shifted_right(stack.table, stack.right, stack.scales, stack.x0, new)
+    except apriori.Range as passed:
+        row, column = (stack.names[i].text() for i in passed.args)
+        raise Refusal(6, f"range file:{plan.name} {row} {column}") from None
+    part.right = dict(zip(stack.names, right))
+    part.known = {name: (values[name], *part.known[name][1:]) for name in stack.names}
+    return part
+
+
 def stacked(parts, place):
     """The sum of parts, or the refusal of more than 1,000 names."""
     whole = Part()
@@ -170,8 +184,17 @@ class Ordered:
         self.right = [part.right[name] for name in self.names]
 
 
-def report_of(part):
-    stack = Ordered(part)
+def add_datum(stack, given):
+    """The rows of the datum in a stack."""
+    try:
+        datum.add(stack.names, stack.x0, stack.scales, stack.table, given)
+    except datum.Unmatched as site:
+        raise Refusal(3, f"unmatched site {'/'.join(text.strip().decode() for text in site.args[0])}") from None
+    except datum.Range as passed:
+        raise Refusal(6, f"range stack {stack.names[passed.args[0]].text()} {stack.names[passed.args[1]].text()}") from None
+
+
+def report_of(stack):
     try:
         return solve.report(stack)
     except solve.Refused as refusal:
@@ -181,8 +204,12 @@ def report_of(part):
 def combined(found, files):
     """The report of the files of a control."""
     inputs = read_inputs(files, found.files)
-    agree(inputs)
-    return report_of(stack_groups([(plan, recover(plan, document, found.scales)) for plan, document in inputs]))
+    values = common_values(inputs, found.reference)
+    parts = [(plan, shift(plan, recover(plan, document, found.scales), values)) for plan, document in inputs]
+    stack = Ordered(stack_groups(parts))
+    if found.datum:
+        add_datum(stack, found.datum)
+    return report_of(stack)
 
 
 def outputs_of(words, files):

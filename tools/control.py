@@ -37,14 +37,23 @@ class Plan:
 
 
 @dataclass
+class Datum:
+    """The sites by code, point and solution, and the standard deviation of each kind of rows, or nothing."""
+
+    sites: list
+    sigmas: dict
+
+
+@dataclass
 class Control:
     """What a control file says; of the header only what a run needs by now."""
 
     files: list
-    datum: bool = False
+    datum: Datum | None = None
     reductions: list = field(default_factory=list)
     scales: dict = field(default_factory=dict)
     workers: int = 1
+    reference: str = ""
 
 
 STANDARD_SCALES = {b"RS_RA ": 6, b"RS_DE ": 6}
@@ -233,6 +242,7 @@ def datum_of(table):
     demand(len(set(sites)) == len(sites), "repeated", "datum.sites")
     sigmas = [given(table, "datum", key, is_text, positive) for key in SIGMAS]
     demand(any(it is not None for it in sigmas), "value", "datum")
+    return Datum(sites, dict(zip(SIGMAS, sigmas)))
 
 
 def reductions_of(tables):
@@ -280,8 +290,7 @@ def read_control(text):
     output_of(output)
     reference, workers = run_of(run)
     plans = files_of(files)
-    if datum:
-        datum_of(datum[0])
+    datum = datum_of(datum[0]) if datum else None
     reductions = reductions_of(reduce)
     scales = scales_of(scale)
     names, groups = [plan.name for plan in plans], {plan.group for plan in plans} - {""}
@@ -289,7 +298,7 @@ def read_control(text):
     for k, (place, named, _) in enumerate(reductions):
         known = place == "end" or named in (names if place == "file" else groups)
         demand(known, "value", f"reduce.{k}.of")
-    return Control(plans, bool(datum), reductions, scales, workers)
+    return Control(plans, datum, reductions, scales, workers, reference or "")
 
 
 if __name__ == "__main__":
