@@ -62,6 +62,37 @@ const HALVED: (&str, &str) = (
     "1.4285714285712000 1.4285714285716000 10000000000000000E-29",
 );
 
+// Of 8 (x - 1) = 5.2, which is 4 (x - 1) = 2 and 4 (x - 1.3) = 2 at the value of the first, and likewise at that of the second.
+const MOVED: (&str, &str) = (
+    "g=40 B=1 M=0",
+    "1.6500000000000000 1.6500000000000000 0E-29",
+);
+
+// A station without observations, and the report of its coordinates where rows of a datum hold them.
+const FREE_STATION: &str = "%=SNX 2.02
++SOLUTION/APRIORI
+     1 STAX   AAAA  A    1 24:001:00000 m    2               4000000 .000000E+00
+     2 STAY   AAAA  A    1 24:001:00000 m    2               1000000 .000000E+00
+     3 STAZ   AAAA  A    1 24:001:00000 m    2               4800000 .000000E+00
+-SOLUTION/APRIORI
++SOLUTION/NORMAL_EQUATION_VECTOR
+     1 STAX   AAAA  A    1 24:001:00000 m    2                     0
+     2 STAY   AAAA  A    1 24:001:00000 m    2                     0
+     3 STAZ   AAAA  A    1 24:001:00000 m    2                     0
+-SOLUTION/NORMAL_EQUATION_VECTOR
++SOLUTION/NORMAL_EQUATION_MATRIX L
+-SOLUTION/NORMAL_EQUATION_MATRIX L
+%ENDSNX
+";
+
+const HELD_REPORT: &str = "SNXCOMB BOUNDS 1
+CERT g=40 B=1 M=0 N=3
+     1 STAX   AAAA  A    1 24:001:00000 m    4000000.0000000000000000 4000000.0000000000000000 0E-27
+     2 STAY   AAAA  A    1 24:001:00000 m    1000000.0000000000000000 1000000.0000000000000000 0E-27
+     3 STAZ   AAAA  A    1 24:001:00000 m    4800000.0000000000000000 4800000.0000000000000000 0E-27
+END
+";
+
 #[derive(Clone, Copy)]
 struct Row<'a> {
     apriori: &'a str,
@@ -220,23 +251,26 @@ fn control_of(alloc: Global, files: &str) -> Result<String, AllocError> {
     Ok(text)
 }
 
-// A desk with that control file and four files of one parameter: their matrices are 4, 3, 1 and 2, their right sides 2, 1, 0 and 1.
-fn four_files(alloc: Global, control: &str) -> Result<MemDesk, AllocError> {
+// A desk with that control file, five files of one parameter, and one of a station: the matrices of the five are 4, 3, 1, 2 and 4, their
+// right sides 2, 1, 0, 1 and 2, and the last has the a priori value 1.3.
+fn files_on_desk(alloc: Global, control: &str) -> Result<MemDesk, AllocError> {
     let mut desk = MemDesk::new(alloc, Vec::new(alloc));
     desk.add_file("con", control.as_bytes())?;
-    for (name, matrix, vector) in [
-        ("a", "4", "2"),
-        ("b", "3", "1"),
-        ("c", "1", "0"),
-        ("d", "2", "1"),
+    for (name, apriori, matrix, vector) in [
+        ("a", "1", "4", "2"),
+        ("b", "1", "3", "1"),
+        ("c", "1", "1", "0"),
+        ("d", "1", "2", "1"),
+        ("e", "1.3", "4", "2"),
     ] {
-        let text = file_of(alloc, "1", matrix, vector)?;
+        let text = file_of(alloc, apriori, matrix, vector)?;
         desk.add_file(name, text.as_bytes())?;
     }
+    desk.add_file("free", FREE_STATION.as_bytes())?;
     Ok(desk)
 }
 
-// Whatever the order and the groups, one report; with the weight .5 in each file the same bounds, and half the residual.
+// Whatever the order, the groups and the reference, one report; with the weight .5 in each file the same bounds, and half the residual.
 #[test]
 fn combines(rt: HostRuntime) -> Result<(), Fail> {
     let alloc = rt.alloc();
@@ -250,9 +284,11 @@ fn combines(rt: HostRuntime) -> Result<(), Fail> {
         ),
         ("a; d; c", SEVENTHS),
         ("a weight = '.5'; d weight = '.5'; c weight = '.5'", HALVED),
+        ("e; a", MOVED),
+        ("a; e [run]\nreference = 'e'", MOVED),
     ] {
         let control = control_of(alloc, files)?;
-        let mut desk = four_files(alloc, control.as_str())?;
+        let mut desk = files_on_desk(alloc, control.as_str())?;
         let report = report_of(alloc, certificate, numbers)?;
         ends(
             &rt,
@@ -267,6 +303,21 @@ fn combines(rt: HostRuntime) -> Result<(), Fail> {
     Ok(())
 }
 
+#[test]
+fn stations_are_held(rt: HostRuntime) -> Result<(), Fail> {
+    let alloc = rt.alloc();
+    let control = control_of(
+        alloc,
+        "free [datum]\nsites = [['AAAA', 'A', '1']]\ntranslation = '.001'",
+    )?;
+    let mut desk = files_on_desk(alloc, control.as_str())?;
+    let line = "combine con out rep";
+    ends(&rt, &mut desk, line, 0, "", Some(HELD_REPORT))?;
+    let control = control_of(alloc, "free")?;
+    let said = "snxcomb: pivot stack STAX/AAAA/A/1/24:001:00000\n";
+    refuses(&rt, control.as_str(), line, 6, said)
+}
+
 // A run of the line over the desk with that control file says this line alone, and leaves the files as they were.
 fn refuses<R: Threads + Sync + Abort + AllocGlobal>(
     rt: &R,
@@ -276,10 +327,10 @@ fn refuses<R: Threads + Sync + Abort + AllocGlobal>(
     said: &str,
 ) -> Result<(), Fail> {
     let alloc = rt.alloc();
-    let before = four_files(alloc, control)?;
-    let mut desk = four_files(alloc, control)?;
+    let before = files_on_desk(alloc, control)?;
+    let mut desk = files_on_desk(alloc, control)?;
     ends(rt, &mut desk, line, status, said, None)?;
-    for name in ["con", "a", "b", "c", "d", "out"] {
+    for name in ["con", "a", "b", "c", "d", "e", "free", "out"] {
         assert_eq!(rt; desk.file(name), before.file(name));
     }
     Ok(())
@@ -304,7 +355,7 @@ fn lines_are_refused(rt: HostRuntime) -> Result<(), Fail> {
     Ok(())
 }
 
-// Each control file has two files, and one fault or more. Two causes come in their stated order.
+// Each control file has one fault or more. Two causes come in their stated order.
 #[test]
 fn controls_are_refused(rt: HostRuntime) -> Result<(), Fail> {
     for (files, said) in [
@@ -323,6 +374,10 @@ fn controls_are_refused(rt: HostRuntime) -> Result<(), Fail> {
             "snxcomb: unbuilt con\n",
         ),
         ("c form = 'solution'; b", "snxcomb: unbuilt c\n"),
+        (
+            "free [datum]\nsites = [['AAAA', 'A', '1'], ['AAAA', 'A', '2']]\nscale = '.001'",
+            "snxcomb: unmatched site AAAA/A/2\n",
+        ),
     ] {
         let control = control_of(rt.alloc(), files)?;
         refuses(&rt, control.as_str(), "combine con out rep", 3, said)?;
