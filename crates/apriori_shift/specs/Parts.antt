@@ -1,4 +1,4 @@
--- For private functions alone: the parts of a shift, and the rows of a base.
+-- For private functions alone: the parts of a shift.
 use Rattle.std.specs.Prelude.{◌≡◌, ◌≤◌, ◌<◌, ◌^◌, ℕ, List, length, slice_index_or, Ok, Err}
 use Rattle.stated_order.specs.First.{HoldsBelow, IsFirstFailure}
 use Rattle.stated_order.specs.Steps.{Then}

@@ -1,11 +1,10 @@
 //! One a priori value and one unit for each name.
 
-ghost use Rattle.std.specs.Prelude.{◌≡◌, ◌↔◌, ◌++◌, ◌∷◌, [], List, IsTrue, IfOk, IfErr, OnOk, Ok, Err, Some, cond, flat_map};
+ghost use Rattle.std.specs.Prelude.{◌≡◌, ◌↔◌, ◌++◌, ◌∷◌, [], List, IsTrue, IfOk, IfErr, Ok, Err, flat_map};
 ghost use Rattle.std.specs.BTreeMap.{get};
 ghost use Rattle.std.specs.Option.{option_map};
 ghost use Rattle.std.specs.declared.cmp.Ordering.TheVariants.{Less};
-ghost use Rattle.param_ids.specs.Order.{id_cmp, is_same_id};
-ghost use Rattle.param_ids.specs.Plain.{PlainId};
+ghost use Rattle.param_ids.specs.Order.{id_cmp};
 ghost use Rattle.snx_rows.specs.declared.rows.Row.{Row as PlainRow};
 ghost use Rattle.apriori_shift.specs.Common.{IsCommon};
 ghost use Rattle.apriori_shift.specs.declared.commons.CommonError.TheVariants.{Memory};

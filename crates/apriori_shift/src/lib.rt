@@ -22,3 +22,6 @@ pub fn shifts_hold()
     ensures moves { SystemsMove }
     ensures multiples { MultiplesMove }
 {}
+
+#[cfg(test)]
+mod tests;

@@ -1,7 +1,7 @@
 -- What is tested and added by places is the addition of a datum.
-use Rattle.std.proofs.Common.{◌≡◌, ◌≤◌, ◌<◌, ◌+◌, ◌*◌, ◌^◌, ◌∙◌, ◌++◌, inl, inr, ℕ, ℤ, pos, ◌*ℤ◌, List, [], ◌∷◌, Option, Some, None, Result, Ok, Err, IfSome, length, map, slice_get, unsigned_abs, refl, sym, ap, subst, arith}
+use Rattle.std.proofs.Common.{◌≡◌, ◌≤◌, ◌<◌, ◌+◌, ◌*◌, ◌^◌, ◌∙◌, ◌++◌, inl, inr, ℕ, ℤ, pos, ◌*ℤ◌, List, [], ◌∷◌, Option, Some, None, Result, Ok, Err, length, map, unsigned_abs, refl, sym, ap, subst, arith}
 use Rattle.std.specs.List.{find}
-use Rattle.std.specs.Prelude.{not, slice_index_or}
+use Rattle.std.specs.Prelude.{not}
 use Rattle.std.proofs.Math.IntN.{◌-ℤ◌}
 use Rattle.std.proofs.lemmas.Bool.{cases_lt}
 use Rattle.std.proofs.lemmas.Int.{ints}
@@ -12,17 +12,15 @@ use Rattle.stated_order.proofs.FirstLaws.{first_lower_failure_moves}
 use Rattle.stated_order.proofs.StepLaws.{then_gives, then_stops}
 use Rattle.whole_numbers.specs.Intervals.{Interval, interval_add, size}
 use Rattle.whole_numbers.specs.Lists.{at}
-use Rattle.sym_blocks.specs.Tables.{SymTable, before, entry_at}
+use Rattle.sym_blocks.specs.Tables.{SymTable, entry_at}
 use Rattle.sym_blocks.proofs.Rows.{entry_sym}
 use Rattle.decimal_e.specs.Decimals.{Decimal}
-use Rattle.inverse_squares.specs.Quotients.{IsOverSquare}
 use Rattle.inverse_squares.proofs.Alone.{over_square_exists}
-use Rattle.param_ids.specs.Plain.{PlainId}
 use Rattle.control_doc.specs.Plain.{PlainDatum}
 use Rattle.control_doc.specs.Valid.{HasPositiveSigmas}
 use Rattle.control_doc.specs.declared.plans.Site.{Site}
 use Rattle.neq_stack.specs.Neqs.{PlainNeq, IsSound}
-use Rattle.neq_stack.specs.ByName.{AreAtMost, entry_in, place_in}
+use Rattle.neq_stack.specs.ByName.{AreAtMost}
 use Rattle.neq_stack.specs.Systems.{name_at}
 use Rattle.neq_stack.proofs.NameLaws.{place_found}
 use Rattle.neq_stack.proofs.PlaceLaws.{name_there}
@@ -38,7 +36,6 @@ use Rattle.datum_rows.specs.Rows.{AreLaidOut, IsRowAt, FitsAt, FitsAll, IsMisfit
 use Rattle.datum_rows.specs.Views.{condition_view, coefficient_by, coordinate_at, AreCoordinates}
 use Rattle.datum_rows.proofs.Alone.{one_row_interval}
 use Rattle.datum_rows.proofs.KeptLaws.{sound_after, sound_through, modest_through, row_turned}
-use Rattle.datum_rows.proofs.NamedRows.{name_is}
 use Rattle.datum_rows.proofs.RowLaws.{over_moved, product_few}
 use Rattle.datum_rows.proofs.SameLaws.{coefficient_same}
 use Rattle.datum_rows.proofs.Sigmas.{Each, IsFine, fine_conditions}
@@ -96,9 +93,11 @@ module _ (sites : List Site) (neq : PlainNeq) (coordinates : List (Option Coordi
     entries = λ i j li lj.
         elim (cases_lt i j) [
           | inl above ↦
-              let there = added.entries j i (omega arith) (omega arith) in
-              (there.0, row_turned sites neq condition j i there.0 (row_named sites neq coordinates are condition j i there.0 lj li there.1),
-              entry_sym table i j ∙ there.2 ∙ ap (λ e. interval_add e there.0) (entry_sym neq.table j i))
+              let there = added.entries j i (omega arith) (omega arith) in (
+                there.0,
+                row_turned sites neq condition j i there.0 (row_named sites neq coordinates are condition j i there.0 lj li there.1),
+                entry_sym table i j ∙ there.2 ∙ ap (λ e. interval_add e there.0) (entry_sym neq.table j i),
+              )
           | inr low ↦
               let there = added.entries i j (omega arith) low in
               (there.0, row_named sites neq coordinates are condition i j there.0 li lj there.1, there.2)

@@ -1,10 +1,10 @@
 -- A datum is added in one way or has one first fault.
-use Rattle.std.proofs.Common.{◌≡◌, ◌∙◌, ℕ, ℤ, pos, ◌*ℤ◌, List, [], ◌∷◌, Result, Ok, Err, length, sym, ap}
+use Rattle.std.proofs.Common.{◌≡◌, ◌∙◌, ℕ, pos, ◌*ℤ◌, List, [], ◌∷◌, Ok, Err, length, sym, ap}
 use Rattle.std.proofs.Math.IntN.{◌-ℤ◌}
 use Rattle.stated_order.specs.Steps.{IsOne, Through}
 use Rattle.stated_order.proofs.FirstLaws.{first_lower_failure_fails, first_lower_failure_is_one}
 use Rattle.stated_order.proofs.StepLaws.{then_is_one}
-use Rattle.whole_numbers.specs.Intervals.{Interval, interval_add}
+use Rattle.whole_numbers.specs.Intervals.{interval_add}
 use Rattle.whole_numbers.specs.Lists.{at}
 use Rattle.sym_blocks.specs.Tables.{before, entry_at}
 use Rattle.sym_blocks.proofs.EqualTables.{equal_symmetric}
@@ -12,7 +12,7 @@ use Rattle.inverse_squares.proofs.Alone.{one_over_square}
 use Rattle.control_doc.specs.declared.plans.Site.{Site}
 use Rattle.neq_stack.specs.Neqs.{PlainNeq}
 use Rattle.datum_rows.specs.Conditions.{Condition, conditions, reach}
-use Rattle.datum_rows.specs.Additions.{Fault, Unmatched, Range, matched, coefficient_at, IsRowInterval, RowFits, IsWithRow, AddsRow, OneAddition}
+use Rattle.datum_rows.specs.Additions.{Unmatched, Range, matched, coefficient_at, IsRowInterval, RowFits, IsWithRow, AddsRow, OneAddition}
 
 -- one interval of a condition at a pair
 pub one_row_interval : (sites : List Site) (neq : PlainNeq) (condition : Condition) (i j : ℕ) → IsOne (IsRowInterval sites neq condition i j)

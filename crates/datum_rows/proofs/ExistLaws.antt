@@ -1,5 +1,5 @@
 -- A datum has an exact system, and with it each multiple.
-use Rattle.std.proofs.Common.{◌≡◌, ◌<◌, ◌*◌, ◌∙◌, ℕ, ℤ, pos, neg_ℤ, ◌+ℤ◌, ◌*ℤ◌, List, [], ◌∷◌, All, map, refl, sym, ap, subst, arith}
+use Rattle.std.proofs.Common.{◌≡◌, ◌<◌, ◌*◌, ◌∙◌, ℕ, ℤ, pos, neg_ℤ, ◌+ℤ◌, ◌*ℤ◌, List, [], ◌∷◌, All, map, refl, sym, ap, arith}
 use Rattle.std.proofs.Math.IntN.{zero-*ℤ}
 use Rattle.std.proofs.Math.Nat.{mul-pos}
 use Rattle.std.proofs.lemmas.List.Elements.{All-nil, All-cons, All-tail}
@@ -12,10 +12,10 @@ use Rattle.inverse_squares.specs.Quotients.{square, power_left}
 use Rattle.param_ids.specs.Plain.{PlainId}
 use Rattle.control_doc.specs.declared.plans.Site.{Site}
 use Rattle.neq_stack.specs.Neqs.{PlainNeq}
-use Rattle.neq_stack.specs.Systems.{NamedSystem, IsSumOf, multiple, sum_of}
+use Rattle.neq_stack.specs.Systems.{NamedSystem, multiple, sum_of}
 use Rattle.datum_rows.specs.Conditions.{Condition, conditions, reach}
 use Rattle.datum_rows.specs.Sites.{coefficient_in}
-use Rattle.datum_rows.specs.Exact.{IsConditionSystem, IsDatumSystem, DatumExists, DatumMultiples}
+use Rattle.datum_rows.specs.Exact.{IsConditionSystem, DatumExists, DatumMultiples}
 use Rattle.datum_rows.proofs.Sigmas.{Each, IsFine, fine_conditions, square_some}
 
 -- ---- one condition

@@ -1,7 +1,6 @@
 -- What lies in normal equations lies, with the system of a datum, in those with its rows.
-use Rattle.std.proofs.Common.{◌≡◌, ◌<◌, ◌*◌, ◌∙◌, inl, inr, ℕ, ℤ, pos, neg_ℤ, ◌+ℤ◌, ◌*ℤ◌, List, [], ◌∷◌, Result, Option, Some, Ok, length, map, slice_get, refl, sym, ap, subst, arith}
-use Rattle.std.specs.Prelude.{slice_index_or}
-use Rattle.std.proofs.Math.IntN.{◌-ℤ◌, zero-*ℤ}
+use Rattle.std.proofs.Common.{◌≡◌, ◌<◌, ◌*◌, ◌∙◌, inl, inr, ℕ, ℤ, pos, neg_ℤ, ◌+ℤ◌, ◌*ℤ◌, List, [], ◌∷◌, Result, Some, Ok, map, slice_get, refl, sym, ap, subst, arith}
+use Rattle.std.proofs.Math.IntN.{◌-ℤ◌}
 use Rattle.std.proofs.Math.Nat.{mul-pos}
 use Rattle.std.proofs.lemmas.Int.{ints}
 use Rattle.std.proofs.lemmas.List.{get_or-map}
@@ -23,15 +22,14 @@ use Rattle.sym_blocks.specs.Tables.{zero_interval}
 use Rattle.param_ids.specs.Plain.{PlainId}
 use Rattle.control_doc.specs.Valid.{IsPositiveAndShort}
 use Rattle.control_doc.specs.declared.plans.Site.{Site}
-use Rattle.neq_stack.specs.Neqs.{PlainNeq, IsSound}
+use Rattle.neq_stack.specs.Neqs.{PlainNeq}
 use Rattle.neq_stack.specs.ByName.{entry_in, right_in, place_in}
-use Rattle.neq_stack.specs.Systems.{NamedSystem, LiesInNeq, IsSumOf, name_at, sum_of}
+use Rattle.neq_stack.specs.Systems.{NamedSystem, LiesInNeq, name_at, sum_of}
 use Rattle.datum_rows.specs.Conditions.{Condition, conditions, reach}
 use Rattle.datum_rows.specs.Sites.{coefficient_of, coefficient_in}
-use Rattle.datum_rows.specs.Additions.{IsWithRow, IsRowInterval, AddsRow}
+use Rattle.datum_rows.specs.Additions.{IsWithRow, AddsRow}
 use Rattle.datum_rows.specs.Exact.{IsConditionSystem, DatumHolds}
 use Rattle.datum_rows.proofs.ExistLaws.{each_of_all}
-use Rattle.datum_rows.proofs.KeptLaws.{sound_after}
 use Rattle.datum_rows.proofs.NamedRows.{AtPlaces, name_is, added_at, right_kept}
 use Rattle.datum_rows.proofs.SameLaws.{coefficient_there, named_same}
 use Rattle.datum_rows.proofs.Sigmas.{Each, IsFine, fine_conditions, sigma_some, square_some}
@@ -101,10 +99,10 @@ module _ (exponent : PlainId → ℤ) (sites : List Site) (neq : PlainNeq) (cond
       elim (added_at sites neq condition after with_row one other) [
         | inl h ↦ record { interval = h.interval; is_row = placed_row one other h; added = h.added }
         | inr h ↦ record {
-            interval = zero_interval;
-            is_row = zero_over_square (coefficient_in sites neq condition.motion one *ℤ coefficient_in sites neq condition.motion other) condition.sigma (pos 18 -ℤ pos (reach condition.motion) -ℤ exponent one -ℤ exponent other) h.none;
-            added = h.added;
-          }
+          interval = zero_interval;
+          is_row = zero_over_square (coefficient_in sites neq condition.motion one *ℤ coefficient_in sites neq condition.motion other) condition.sigma (pos 18 -ℤ pos (reach condition.motion) -ℤ exponent one -ℤ exponent other) h.none;
+          added = h.added;
+        }
       ]
 
   pub condition_holds : (S R : NamedSystem) → IsFine condition → LiesInNeq exponent neq S → IsConditionSystem sites neq condition R → R.q ≡ S.q → LiesInNeq exponent after (plus S R)

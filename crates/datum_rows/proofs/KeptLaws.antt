@@ -16,7 +16,7 @@ use Rattle.param_ids.specs.Order.{IsNames}
 use Rattle.param_ids.specs.Tables.{IsScale}
 use Rattle.control_doc.specs.declared.plans.Site.{Site}
 use Rattle.neq_stack.specs.Neqs.{PlainNeq, IsSound}
-use Rattle.neq_stack.specs.ByName.{AreAtMost, entry_in, right_in}
+use Rattle.neq_stack.specs.ByName.{AreAtMost, entry_in}
 use Rattle.datum_rows.specs.Conditions.{Condition, reach}
 use Rattle.datum_rows.specs.Additions.{coefficient_at, IsRowInterval, RowFits, IsWithRow, AddsRow}
 use Rattle.datum_rows.proofs.NamedRows.{added_at, right_kept}

@@ -1,7 +1,7 @@
 -- Lists of conditions, from their first member on.
-use Rattle.std.proofs.Common.{◌≡◌, ◌≤◌, ◌<◌, ◌+◌, ◌-◌, ◌*◌, ◌^◌, ◌∙◌, inl, inr, ℕ, zero, suc, ℤ, List, [], ◌∷◌, Option, length, take, drop, get_or, refl, sym, ap, subst, arith}
+use Rattle.std.proofs.Common.{◌≡◌, ◌≤◌, ◌<◌, ◌+◌, ◌-◌, ◌*◌, ◌^◌, ◌∙◌, inl, ℕ, zero, suc, ℤ, List, [], ◌∷◌, Option, length, take, drop, get_or, refl, sym, ap, subst, arith}
 use Rattle.std.proofs.lemmas.List.{take_all}
-use Rattle.whole_numbers.specs.Intervals.{Interval, interval_add, size}
+use Rattle.whole_numbers.specs.Intervals.{size}
 use Rattle.sym_blocks.specs.Tables.{SymTable, entry_at}
 use Rattle.control_doc.specs.Valid.{IsPositiveAndShort}
 use Rattle.datum_rows.specs.declared.motions.Condition.{Condition}

@@ -1,11 +1,11 @@
 -- The interval that a condition adds at two names.
-use Rattle.std.proofs.Common.{◌≡◌, ◌<◌, ◌∙◌, ◌⊎◌, inl, inr, ℕ, ℤ, pos, ◌*ℤ◌, List, Option, Some, None, Contains, length, slice_get, sym, ap, subst, arith}
+use Rattle.std.proofs.Common.{◌≡◌, ◌<◌, ◌∙◌, ◌⊎◌, inl, inr, ℕ, ℤ, pos, ◌*ℤ◌, List, Option, Some, Contains, length, slice_get, sym, ap, subst}
 use Rattle.std.proofs.Math.IntN.{zero-*ℤ}
 use Rattle.std.proofs.lemmas.Option.{slice_get_within}
 use Rattle.std.specs.Prelude.{unwrap_or}
 use Rattle.whole_numbers.specs.Intervals.{Interval, interval_add}
 use Rattle.whole_numbers.proofs.Ring.{*ℤ_comm}
-use Rattle.sym_blocks.specs.Tables.{entry_at, zero_interval}
+use Rattle.sym_blocks.specs.Tables.{zero_interval}
 use Rattle.param_ids.specs.Plain.{PlainId}
 use Rattle.control_doc.specs.declared.plans.Site.{Site}
 use Rattle.neq_stack.specs.Neqs.{PlainNeq}
@@ -80,14 +80,14 @@ module _ (sites : List Site) (neq : PlainNeq) (condition : Condition) (after : P
                     ∙ ap (λ w. interval_add w there.0) (sym (entry_there neq row.0 col.0 one other row.2 col.2));
               })
           | inr none ↦ inr (record {
-              none = product_zero_right (coefficient_in sites neq condition.motion one) (coefficient_in sites neq condition.motion other) (coefficient_missing sites neq condition.motion other none.1);
-              added = nothing_added (entry_in after one other) (entry_in neq one other) (no_column after one other (lacks other none.0)) (no_column neq one other none.0);
-            })
+            none = product_zero_right (coefficient_in sites neq condition.motion one) (coefficient_in sites neq condition.motion other) (coefficient_missing sites neq condition.motion other none.1);
+            added = nothing_added (entry_in after one other) (entry_in neq one other) (no_column after one other (lacks other none.0)) (no_column neq one other none.0);
+          })
         ]
         | inr none ↦ inr (record {
-            none = product_zero_left (coefficient_in sites neq condition.motion one) (coefficient_in sites neq condition.motion other) (coefficient_missing sites neq condition.motion one none.1);
-            added = nothing_added (entry_in after one other) (entry_in neq one other) (no_row after one other (lacks one none.0)) (no_row neq one other none.0);
-          })
+          none = product_zero_left (coefficient_in sites neq condition.motion one) (coefficient_in sites neq condition.motion other) (coefficient_missing sites neq condition.motion one none.1);
+          added = nothing_added (entry_in after one other) (entry_in neq one other) (no_row after one other (lacks one none.0)) (no_row neq one other none.0);
+        })
       ]
 
   pub right_kept : (id : PlainId) → right_in after id ≡ right_in neq id

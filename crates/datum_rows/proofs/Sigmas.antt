@@ -1,5 +1,5 @@
 -- Standard deviations are positive and short.
-use Rattle.std.proofs.Common.{◌≡◌, ◌≢◌, ◌≤◌, ◌<◌, ◌*◌, ◌^◌, ℕ, ℤ, pos, ◌<ℤ◌, List, [], ◌∷◌, ◌++◌, Option, Some, None, IfSome, length, map, unsigned_abs, arith}
+use Rattle.std.proofs.Common.{◌≢◌, ◌<◌, ◌^◌, pos, ◌<ℤ◌, List, [], ◌∷◌, ◌++◌, Option, Some, None, IfSome, unsigned_abs, arith}
 use Rattle.std.proofs.lemmas.Int.{ints}
 use Rattle.std.proofs.Math.Nat.{mul-pos}
 use Rattle.inverse_squares.specs.Quotients.{square}

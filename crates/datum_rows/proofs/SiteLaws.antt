@@ -1,5 +1,5 @@
 -- Names that are counted and searched, and a priori values in whole numbers.
-use Rattle.std.proofs.Common.{◌≡◌, ◌≤◌, ◌<◌, ◌+◌, ◌-◌, ◌^◌, ◌∙◌, inl, inr, ℕ, ℤ, pos, ◌+ℤ◌, Bool, true, false, cond, List, Option, Some, All, length, filter, take, ◌++◌, ◌∷◌, [], slice_get, slice_index_or, get_or, unsigned_abs, refl, sym, ap, subst, arith}
+use Rattle.std.proofs.Common.{◌≡◌, ◌≤◌, ◌<◌, ◌+◌, ◌-◌, ◌^◌, ◌∙◌, inl, inr, ℕ, pos, ◌+ℤ◌, Bool, true, false, cond, List, Some, All, length, filter, take, ◌++◌, ◌∷◌, [], slice_get, slice_index_or, get_or, unsigned_abs, sym, ap, subst, arith}
 use Rattle.std.specs.List.{position_or_len}
 use Rattle.std.proofs.lemmas.Bool.{cases_lt}
 use Rattle.std.proofs.lemmas.Int.{ints, to_z-of_z}
@@ -7,7 +7,7 @@ use Rattle.std.proofs.lemmas.List.{get_or_past, get_or_append_left, get_or-appen
 use Rattle.std.proofs.lemmas.List.Filters.{length-filter_more}
 use Rattle.std.proofs.lemmas.List.Sums.{position_or_len_is}
 use Rattle.std.proofs.lemmas.Option.{slice_get_within, get_or_from_slice_get}
-use Rattle.whole_numbers.specs.Scaling.{floor_scaled, ceil_scaled}
+use Rattle.whole_numbers.specs.Scaling.{floor_scaled}
 use Rattle.decimal_e.specs.Decimals.{Decimal}
 use Rattle.decimal_e.specs.Fractions.{IsAtMost}
 use Rattle.decimal_e.proofs.SizeLaws.{within, ends_ordered}

@@ -1,5 +1,5 @@
 -- The interval of zero over a square is zero.
-use Rattle.std.proofs.Common.{◌≡◌, ◌≤◌, ◌∙◌, ◌-◌, ◌*◌, ◌/◌, ◌^◌, ℕ, ℤ, pos, negsuc, suc, ◌*ℤ◌, unsigned_abs, refl, sym, ap, subst, arith}
+use Rattle.std.proofs.Common.{◌≡◌, ◌∙◌, ◌-◌, ◌*◌, ◌/◌, ◌^◌, ℕ, ℤ, pos, negsuc, suc, refl, sym, ap, subst, arith}
 use Rattle.std.proofs.Math.IntN.{zero-*ℤ}
 use Rattle.whole_numbers.specs.Intervals.{Interval}
 use Rattle.whole_numbers.specs.Scaling.{interval_scale10}

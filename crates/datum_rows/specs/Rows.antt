@@ -1,5 +1,5 @@
 -- Intervals of conditions at places, by the coordinates of the parameters there.
-use Rattle.std.specs.Prelude.{◌≡◌, ◌≤◌, ◌<◌, ◌^◌, ◌⊎◌, ℕ, ℤ, pos, ◌*ℤ◌, ◌-ℤ◌, List, [], ◌∷◌, Option, Some, None, length, All, unsigned_abs}
+use Rattle.std.specs.Prelude.{◌≡◌, ◌≤◌, ◌<◌, ◌^◌, ◌⊎◌, ℕ, ℤ, pos, ◌*ℤ◌, ◌-ℤ◌, List, [], ◌∷◌, Option, Some, None, length, All}
 use Rattle.stated_order.specs.First.{HoldsLower, IsFirstLowerFailure}
 use Rattle.whole_numbers.specs.Intervals.{Interval, interval_add, size}
 use Rattle.whole_numbers.specs.Lists.{at}

@@ -1,5 +1,5 @@
 -- The coordinates of the datum's sites among the parameters of normal equations.
-use Rattle.std.specs.Prelude.{◌≡◌, ℕ, ℤ, pos, Bool, ◌&&◌, ◌==◌, not, if◌then◌else◌, List, length, filter, Option, Some, None, codes, slice_index_or}
+use Rattle.std.specs.Prelude.{ℕ, ℤ, pos, Bool, ◌&&◌, ◌==◌, if◌then◌else◌, List, length, filter, Option, Some, None, codes, slice_index_or}
 use Rattle.std.specs.List.{find, position_or_len}
 use Rattle.std.specs.Str.{bytes_eq}
 use Rattle.decimal_e.specs.Scales.{decimal_interval}

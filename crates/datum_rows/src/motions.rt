@@ -114,11 +114,7 @@ pub fn reach(motion: Motion) -> i32
 }
 
 /// Appends these motions with a standard deviation.
-fn push_each(
-    list: &mut Vec<Condition>,
-    sigma: &Dec,
-    motions: &[Motion],
-) -> Result<(), AllocError>
+fn push_each(list: &mut Vec<Condition>, sigma: &Dec, motions: &[Motion]) -> Result<(), AllocError>
     ensures { OnOk result (map condition_view list.new.items ≡ map condition_view list.old.items ++ given (Some sigma.now) (map motion_view motions.now)) }
 {
     for motion in motions {

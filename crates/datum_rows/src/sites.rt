@@ -90,7 +90,8 @@ fn has_one(names: &Names, site: &Site, axis: Axis) -> bool
 fn is_matched(names: &Names, site: &Site) -> bool
     ensures { result ≡ spec.is_matched names.now site.now }
 {
-    has_one(names, site, Axis::X) && (has_one(names, site, Axis::Y) && has_one(names, site, Axis::Z))
+    has_one(names, site, Axis::X)
+        && (has_one(names, site, Axis::Y) && has_one(names, site, Axis::Z))
 }
 
 /// The first site of which a coordinate is not there exactly once.
@@ -187,11 +188,7 @@ fn site_of(id: &ParamId, sites: &[Site]) -> Option<Site>
 }
 
 /// The coordinate of a site that a name is that of, if it is one.
-fn coordinate_of<const N: usize>(
-    neq: &Neq<N>,
-    sites: &[Site],
-    id: &ParamId,
-) -> Option<Coordinate>
+fn coordinate_of<const N: usize>(neq: &Neq<N>, sites: &[Site], id: &ParamId) -> Option<Coordinate>
     requires { IsSound (neq_view neq.now) }
     ensures value { (motion : PlainMotion) → coefficient_by motion result ≡ spec.coefficient_of sites.now (neq_view neq.now) motion id.now }
     ensures near { IsNearBy result }

@@ -1,4 +1,4 @@
-use Rattle.std.proofs.Common.{◌≡◌, ◌≤◌, ◌<◌, ◌+◌, ◌*◌, ◌^◌, ◌∙◌, ℕ, Option, None, Some, List, length, map, refl, sym, ap, subst, arith}
+use Rattle.std.proofs.Common.{◌*◌, ◌^◌, ◌∙◌, None, Some, length, sym, ap, subst, arith}
 use Rattle.std.specs.List.{find}
 use Rattle.std.specs.Prelude.{not}
 use Rattle.control_doc.specs.Views.{datum_view}
@@ -32,14 +32,25 @@ add_all-requires g c =
     let are = subst (λ sites. AreCoordinates sites neq coordinates) c.deref-2.ensures.value c.in-Ok.ensures in
     let few = few_list datum list c.in-Ok-conditions.ensures in
     let same = ap (λ l. length l) c.deref-8.ensures.value in
-    let tested = at_lists (λ a b l. AreTested a b l None) _ coordinates _ neq.scales _ list c.deref-3.ensures.value c.deref-4.ensures.value c.deref-5.ensures.value c.in_default-first_misfit.ensures in
-    (omega arith,
-    (at_lists (λ a b l. AreLaidOut a b) coordinates _ neq.scales _ list _ (sym c.deref-6.ensures.value) (sym c.deref-7.ensures.value) (sym c.deref-8.ensures.value) (laid_out datum.sites neq coordinates are c.requires.sound),
-    (subst AreFine (sym c.deref-8.ensures.value) (fine_list datum list c.in-Ok-conditions.ensures c.requires.positive),
-    (c.requires.sound.rows ∙ sym are.count ∙ ap (λ l. length l) (sym c.deref-6.ensures.value),
-    (c.requires.sound.entries,
-    (at_lists AreFitting coordinates _ neq.scales _ list _ (sym c.deref-6.ensures.value) (sym c.deref-7.ensures.value) (sym c.deref-8.ensures.value) (tested_fits coordinates neq.scales list tested),
-    (64 * 10 ^ 36, table_at_most (64 * 10 ^ 36) neq c.requires.sound c.requires.modest, omega arith)))))))
+    let tested = at_lists (λ a b l. AreTested a b l None) _ coordinates _ neq.scales _ list c.deref-3.ensures.value c.deref-4.ensures.value c.deref-5.ensures.value c.in_default-first_misfit.ensures in (
+      omega arith,
+      (
+        at_lists (λ a b l. AreLaidOut a b) coordinates _ neq.scales _ list _ (sym c.deref-6.ensures.value) (sym c.deref-7.ensures.value) (sym c.deref-8.ensures.value) (laid_out datum.sites neq coordinates are c.requires.sound),
+        (
+          subst AreFine (sym c.deref-8.ensures.value) (fine_list datum list c.in-Ok-conditions.ensures c.requires.positive),
+          (
+            c.requires.sound.rows ∙ sym are.count ∙ ap (λ l. length l) (sym c.deref-6.ensures.value),
+            (
+              c.requires.sound.entries,
+              (
+                at_lists AreFitting coordinates _ neq.scales _ list _ (sym c.deref-6.ensures.value) (sym c.deref-7.ensures.value) (sym c.deref-8.ensures.value) (tested_fits coordinates neq.scales list tested),
+                (64 * 10 ^ 36, table_at_most (64 * 10 ^ 36) neq c.requires.sound c.requires.modest, omega arith),
+              ),
+            ),
+          ),
+        ),
+      ),
+    )
 
 pub returns-clause-added : goal.returns-clause-added
 returns-clause-added g c =

@@ -1,7 +1,7 @@
-use Rattle.std.proofs.Common.{◌≡◌, ◌≤◌, ◌<◌, ◌+◌, ◌*◌, ◌^◌, ◌∙◌, suc, ℕ, length, take, sym, ap, subst, arith, add-one}
-use Rattle.datum_rows.specs.Rows.{AreAllAdded, IsTableAtMost}
+use Rattle.std.proofs.Common.{◌≡◌, ◌<◌, ◌+◌, ◌*◌, ◌^◌, ◌∙◌, length, subst, arith, add-one}
+use Rattle.datum_rows.specs.Rows.{IsTableAtMost}
 use Rattle.datum_rows.specs.Views.{condition_view}
-use Rattle.datum_rows.proofs.ListLaws.{fine_at, fitting_at, added_more, added_all, table_grows, room_left}
+use Rattle.datum_rows.proofs.ListLaws.{fine_at, fitting_at, added_more, table_grows, room_left}
 use Rattle.datum_rows.proofs.rows.add_all.Goals as goal
 
 pub add_condition-requires : goal.add_condition-requires
@@ -10,14 +10,25 @@ add_condition-requires g c =
     let k = c.loop-condition.condition-index in
     let x = c.condition-item.result in
     let before = c.loop-condition.invariant in
-    let within : k < length xs = c.loop-condition-test.true in
-    (omega arith,
-    (c.requires.laid,
-    (fine_at xs k x within c.condition-item.is c.requires.sigmas,
-    (before.size ∙ c.requires.size,
-    (before.whole,
-    (fitting_at c.args.coordinates.now c.args.scales.now xs k x within c.condition-item.is c.requires.fits,
-    (room_left c.loop-condition.table c.requires.small.0 k (length xs) within c.requires.small.2 (before.small c.requires.small.0 c.requires.small.1))))))))
+    let within : k < length xs = c.loop-condition-test.true in (
+      omega arith,
+      (
+        c.requires.laid,
+        (
+          fine_at xs k x within c.condition-item.is c.requires.sigmas,
+          (
+            before.size ∙ c.requires.size,
+            (
+              before.whole,
+              (
+                fitting_at c.args.coordinates.now c.args.scales.now xs k x within c.condition-item.is c.requires.fits,
+                (room_left c.loop-condition.table c.requires.small.0 k (length xs) within c.requires.small.2 (before.small c.requires.small.0 c.requires.small.1)),
+              ),
+            ),
+          ),
+        ),
+      ),
+    )
 
 pub loop-condition-preserved : goal.loop-condition-preserved
 loop-condition-preserved g c =

@@ -1,4 +1,4 @@
-use Rattle.std.proofs.Common.{◌∙◌, false, sym}
+use Rattle.std.proofs.Common.{◌∙◌, sym}
 use Rattle.datum_rows.specs.Views.{condition_view}
 use Rattle.datum_rows.proofs.RowLaws.{does_not_fit, none_is, nothing_in_column}
 use Rattle.datum_rows.proofs.rows.add_at.Goals as goal

@@ -1,4 +1,4 @@
-use Rattle.std.proofs.Common.{◌≡◌, ◌<◌, ◌∙◌, arith}
+use Rattle.std.proofs.Common.{◌<◌, ◌∙◌, arith}
 use Rattle.datum_rows.specs.Views.{condition_view}
 use Rattle.datum_rows.proofs.RowLaws.{rows_next}
 use Rattle.datum_rows.proofs.rows.add_condition.Goals as goal

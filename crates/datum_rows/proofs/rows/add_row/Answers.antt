@@ -1,7 +1,4 @@
-use Rattle.std.proofs.Common.{◌≡◌, ◌≤◌, ◌<◌, ◌∙◌, inl, inr, ℕ, sym, ap, subst, arith}
-use Rattle.std.proofs.lemmas.Bool.{cases_lt}
-use Rattle.sym_blocks.specs.Tables.{entry_at}
-use Rattle.datum_rows.specs.Rows.{IsAddedAt}
+use Rattle.std.proofs.Common.{◌<◌, ◌∙◌, sym, arith}
 use Rattle.datum_rows.specs.Views.{condition_view}
 use Rattle.datum_rows.proofs.RowLaws.{none_is, nothing_in_row, columns_next}
 use Rattle.datum_rows.proofs.rows.add_row.Goals as goal

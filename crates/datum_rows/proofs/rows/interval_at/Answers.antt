@@ -1,4 +1,4 @@
-use Rattle.std.proofs.Common.{◌∙◌, ℤ, subst}
+use Rattle.std.proofs.Common.{◌∙◌}
 use Rattle.datum_rows.proofs.RowLaws.{product_read, power_read, over_moved}
 use Rattle.datum_rows.proofs.rows.interval_at.Goals as goal
 

@@ -1,8 +1,7 @@
-use Rattle.std.proofs.Common.{◌≡◌, ◌∙◌, ◌+◌, length, ℕ, None, Option, ap, sym, subst, arith}
+use Rattle.std.proofs.Common.{◌≡◌, ◌∙◌, ◌+◌, length, None, ap, sym}
 use Rattle.std.proofs.lemmas.List.{length_push}
 use Rattle.neq_stack.specs.Neqs.{neq_view}
 use Rattle.neq_stack.specs.Systems.{name_at}
-use Rattle.datum_rows.specs.declared.sites.Coordinate.{Coordinate}
 use Rattle.datum_rows.specs.Sites.{coefficient_of}
 use Rattle.datum_rows.specs.Views.{coefficient_by, IsNearBy}
 use Rattle.datum_rows.proofs.NamedRows.{name_is}
