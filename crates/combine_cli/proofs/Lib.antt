@@ -15,6 +15,7 @@ pub mod PartLaws
 pub mod ReportLaws
 pub mod RunLaws
 pub mod SoundParts
+pub mod StackBounds
 pub mod TurnLaws
 pub mod UngroupLaws
 pub mod Verdicts

@@ -108,6 +108,8 @@ pub fn stack_of_parts(alloc: Global, parts: &[FilePart<'_>]) -> Result<Neq<16>, 
     requires few { length parts.now ≤ 64 }
     ensures stacked { IfOk result (λ neq. StacksParts (map part_view parts.now) (Ok (neq_view neq))) }
     ensures whole { IfOk result (λ neq. IsStackOf (neqs_of (map part_view parts.now)) (neq_view neq)) }
+    ensures sound { IfOk result (λ neq. IsSound (neq_view neq)) }
+    ensures modest { IfOk result (λ neq. AreAtMost (64 * 10 ^ 36) (neq_view neq)) }
     ensures refused { IfErr result (IfTold (λ refusal. StacksParts (map part_view parts.now) (Err refusal))) }
     ensures no_fault { IfErr result (λ refusal. status_of refusal ≢ 5) }
 {

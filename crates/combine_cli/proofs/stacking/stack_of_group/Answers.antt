@@ -5,7 +5,8 @@ use Rattle.neq_stack.specs.Neqs.{IsSound, neq_view}
 use Rattle.neq_stack.specs.declared.Neq.{Neq}
 use Rattle.combine_cli.specs.Combination.{group_of}
 use Rattle.combine_cli.specs.Parts.{part_view}
-use Rattle.combine_cli.proofs.GroupStacks.{members_all, members_agree, members_few, group_fits}
+use Rattle.combine_cli.proofs.GroupStacks.{members_all, members_agree, members_few}
+use Rattle.combine_cli.proofs.StackBounds.{group_fits}
 use Rattle.combine_cli.proofs.stacking.stack_of_group.Goals as goal
 
 pub stack_all-requires : goal.stack_all-requires

@@ -1,4 +1,4 @@
-use Rattle.std.proofs.Common.{◌≤◌, ◌^◌, Bor, map, length, Ok, ap, arith}
+use Rattle.std.proofs.Common.{◌≤◌, ◌*◌, ◌^◌, Bor, map, length, Ok, ap, arith}
 use Rattle.std.proofs.lemmas.List.{length-map}
 use Rattle.control_doc.specs.Views.{plan_view}
 use Rattle.control_doc.specs.declared.plans.FilePlan.{FilePlan}
@@ -7,6 +7,7 @@ use Rattle.combine_cli.specs.Combination.{Group, group_of}
 use Rattle.combine_cli.specs.Parts.{part_view}
 use Rattle.combine_cli.proofs.AlikeLaws.{whole_is_of_parts}
 use Rattle.combine_cli.proofs.GroupStacks.{stacks_sound, stacks_agree, stacks_modest, stacks_few, parts_stack}
+use Rattle.combine_cli.proofs.StackBounds.{whole_modest}
 use Rattle.combine_cli.proofs.stacking.stack_of_parts.Goals as goal
 
 abbrev group_at : Bor FilePlan → Group
@@ -26,7 +27,7 @@ pub stack_of_stacks-requires-clause-modest : goal.stack_of_stacks-requires-claus
 stack_of_stacks-requires-clause-modest c =
     let few : length (map part_view c.args.parts.now) ≤ 64 = omega (arith, length-map c.args.parts.now part_view) in
     rw c.deref-2.ensures.value
-    (stacks_modest (map part_view c.args.parts.now) (map group_at c.in_ok-plans.plans.items) (map neq_view c.in_ok-stacks.stacks.items) (rw c.deref.ensures.value at c.in_ok-stacks.ensures.stacked) (10 ^ 34) c.requires.modest few)
+    (stacks_modest (map part_view c.args.parts.now) (map group_at c.in_ok-plans.plans.items) (map neq_view c.in_ok-stacks.stacks.items) (rw c.deref.ensures.value at c.in_ok-stacks.ensures.stacked) (2 * 10 ^ 34) c.requires.modest few)
 
 pub stack_of_stacks-requires-clause-few : goal.stack_of_stacks-requires-clause-few
 stack_of_stacks-requires-clause-few c =
@@ -42,3 +43,11 @@ returns-clause-whole c =
     whole_is_of_parts parts neq
     (parts_stack parts (map group_at c.in_ok-plans.plans.items) (map neq_view c.in_ok-stacks.stacks.items) (Ok neq) c.in_ok-plans.ensures.groups (rw c.deref.ensures.value at c.in_ok-stacks.ensures.stacked)
     (rw c.deref-2.ensures.value at c.in_ok-neq.ensures.stacked))
+
+pub returns-clause-sound : goal.returns-clause-sound
+returns-clause-sound c = let whole = returns-clause-whole c in whole.sound
+
+pub returns-clause-modest : goal.returns-clause-modest
+returns-clause-modest c =
+    let few : length (map part_view c.args.parts.now) ≤ 64 = omega (arith, length-map c.args.parts.now part_view) in
+    whole_modest (map part_view c.args.parts.now) (neq_view c.in_ok-neq.neq) c.requires.modest few (returns-clause-whole c)

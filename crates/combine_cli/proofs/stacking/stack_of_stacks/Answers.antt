@@ -2,7 +2,7 @@ use Rattle.std.proofs.Common.{◌≤◌, Bor, map, length, ap, arith}
 use Rattle.std.proofs.lemmas.List.{length-map}
 use Rattle.neq_stack.specs.Neqs.{neq_view}
 use Rattle.neq_stack.specs.declared.Neq.{Neq}
-use Rattle.combine_cli.proofs.GroupStacks.{stacks_fit}
+use Rattle.combine_cli.proofs.StackBounds.{stacks_fit}
 use Rattle.combine_cli.proofs.stacking.stack_of_stacks.Goals as goal
 
 pub stack_all-requires : goal.stack_all-requires
