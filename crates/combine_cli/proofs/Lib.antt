@@ -2,6 +2,7 @@ pub mod Agreement
 pub mod AlikeInputs
 pub mod AlikeLaws
 pub mod CombinedLaws
+pub mod CountedLaws
 pub mod Decisions
 pub mod EachLaws
 pub mod Equal
@@ -9,11 +10,11 @@ pub mod ExactSystems
 pub mod GroupLaws
 pub mod GroupSorts
 pub mod GroupStacks
-pub mod KnownLaws
 pub mod OneCombination
 pub mod PartLaws
 pub mod ReportLaws
 pub mod RunLaws
+pub mod ShiftedParts
 pub mod SoundParts
 pub mod StackBounds
 pub mod TurnLaws

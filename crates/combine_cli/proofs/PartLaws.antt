@@ -1,10 +1,13 @@
 -- The parts of files, one after another.
-use Rattle.std.proofs.Common.{◌≡◌, ◌≢◌, ◌⊎◌, ◌∷◌, ◌++◌, ◌+◌, ◌<◌, ◌∙◌, inl, inr, ℕ, List, [], length, get_or, map, take, false, if◌then◌else◌, Result, Ok, Err, refl, sym, ap, subst}
+use Rattle.std.proofs.Common.{◌≡◌, ◌≢◌, ◌⊎◌, ◌∷◌, ◌++◌, ◌+◌, ◌<◌, ◌∙◌, inl, inr, ℕ, List, [], length, get_or, map, take, false, if◌then◌else◌, Result, Ok, Err, refl, sym, ap, subst, arith}
 use Rattle.std.specs.Result.{is_ok, is_err}
-use Rattle.std.proofs.lemmas.List.{map-append}
+use Rattle.std.specs.Prelude.{All}
+use Rattle.std.proofs.Math.ListN.{get_or-map}
+use Rattle.std.proofs.lemmas.List.{length-map, map-append}
+use Rattle.std.proofs.lemmas.List.Elements.{All-contains}
 use Rattle.stated_order.specs.Lists.{AreEach}
-use Rattle.stated_order.proofs.StepLaws.{then_stops}
 use Rattle.param_ids.specs.Tables.{ScaleMap}
+use Rattle.snx_rows.specs.declared.rows.Row.{Row}
 use Rattle.snx_blocks.specs.Documents.{PlainDoc}
 use Rattle.control_doc.specs.Plain.{PlainPlan}
 use Rattle.control_doc.specs.declared.plans.Form.{Form}
@@ -14,12 +17,12 @@ use Rattle.recover_neq.specs.declared.RecoverFault.{RecoverFault}
 use Rattle.recover_neq.specs.declared.RecoverError.TheVariants.{Memory, Fault}
 use Rattle.run_inputs.specs.Inputs.{PlainInput}
 use Rattle.combine_cli.specs.Causes.{refusal_of_recovery}
-use Rattle.combine_cli.specs.Combination.{RecoversBy, Recovers, Part, IsPart, AreParts}
+use Rattle.combine_cli.specs.Combination.{RecoversBy, Part, IsPart, AreParts}
 use Rattle.combine_cli.specs.Parts.{IsPartOf}
 use Rattle.combine_cli.proofs.TurnLaws.{turn_more, pair_more}
 
 -- ---- why a file has no part
-recovers_fault : (form : Form) (plan : PlainPlan) (scales : ScaleMap) (doc : PlainDoc) (fault : RecoverFault) → form ≢ forms.Solution → IsRecovered doc plan.weight scales (Err fault)
+pub recovers_fault : (form : Form) (plan : PlainPlan) (scales : ScaleMap) (doc : PlainDoc) (fault : RecoverFault) → form ≢ forms.Solution → IsRecovered doc plan.weight scales (Err fault)
     → RecoversBy form plan scales doc (Err (refusal_of_recovery form plan.name fault))
 recovers_fault forms.Auto plan scales doc fault other h = (fault, h, refl)
 recovers_fault forms.Neq plan scales doc fault other h = (fault, h, refl)
@@ -30,28 +33,26 @@ pub fault_told : (fault : RecoverFault) (P : RecoverFault → Type 0) → (Fault
 fault_told fault P (inl e) = absurd (cc)
 fault_told fault P (inr (other, e, h)) = let same : other ≡ fault = cc in subst P same h
 
-module _ (scales : ScaleMap) (before : List Part) (input : PlainInput) where
-  pub part_fault : (fault : RecoverFault) → input.plan.form ≢ forms.Solution → IsRecovered input.doc input.plan.weight scales (Err fault) → IsPart scales before input (Err (refusal_of_recovery input.plan.form input.plan.name fault))
-  part_fault fault other h =
-      then_stops (Recovers input.plan scales input.doc) (λ neq r. r ≡ Ok (record { plan = input.plan; neq = neq })) (refusal_of_recovery input.plan.form input.plan.name fault)
-      (recovers_fault input.plan.form input.plan scales input.doc fault other h)
+-- ---- the file at a place
+pub mapped_at : {X A : Type 0} (view : X → A) (P : A → Type 0) (xs : List X) (i : ℕ) (x : X) → i < length xs → x ≡ get_or xs i x → All P (map view xs) → P (view x)
+mapped_at view P xs i x lt is all = All-contains P (map view xs) (view x) all (i, omega (arith, length-map xs view), get_or-map view xs i x ∙ ap view (sym is))
 
 -- ---- one more part
 pub pushed_whole : {T E X : Type 0} (r : Result T E) (xs whole front : List X) → is_err r ≡ false → xs ≡ (if is_ok r then whole else front) → xs ≡ whole
 pushed_whole (Ok done) xs whole front e h = h
 pushed_whole (Err cause) xs whole front e h = absurd (cc)
 
-module _ {X Y : Type 0} (view : X → PlainInput) (see : Y → Part) (scales : ScaleMap) (inputs : List X) (i n : ℕ) (x : X) (parts pushed : List Y) (part : Y)
+module _ {X Y : Type 0} (view : X → PlainInput) (see : Y → Part) (scales : ScaleMap) (base : List Row) (inputs : List X) (i n : ℕ) (x : X) (parts pushed : List Y) (part : Y)
     (lt : i < length inputs) (is : x ≡ get_or inputs i x) (n_is : n ≡ i + 1) (pushed_is : pushed ≡ parts ++ part ∷ []) where
   seen : map see parts ++ see part ∷ [] ≡ map see pushed
   seen = sym (ap (map see) pushed_is ∙ map-append see parts (part ∷ []))
 
-  pub part_more : AreParts scales (map view (take i inputs)) (Ok (map see parts)) → IsPart scales [] (view x) (Ok (see part)) → AreParts scales (map view (take n inputs)) (Ok (map see pushed))
+  pub part_more : AreParts scales base (map view (take i inputs)) (Ok (map see parts)) → IsPart scales base [] (view x) (Ok (see part)) → AreParts scales base (map view (take n inputs)) (Ok (map see pushed))
   part_more so_far here =
-      subst (λ (k : ℕ). AreParts scales (map view (take k inputs)) (Ok (map see pushed))) (sym n_is)
-      (subst (λ (l : List Part). AreParts scales (map view (take (i + 1) inputs)) (Ok l)) seen (turn_more view inputs i x lt is (IsPart scales) (map see parts) (see part) so_far here))
+      subst (λ (k : ℕ). AreParts scales base (map view (take k inputs)) (Ok (map see pushed))) (sym n_is)
+      (subst (λ (l : List Part). AreParts scales base (map view (take (i + 1) inputs)) (Ok l)) seen (turn_more view inputs i x lt is (IsPart scales base) (map see parts) (see part) so_far here))
 
-  pub known_more : AreEach (IsPartOf scales) (map view (take i inputs)) (map see parts) → IsPartOf scales (view x) (see part) → AreEach (IsPartOf scales) (map view (take n inputs)) (map see pushed)
+  pub known_more : AreEach (IsPartOf scales base) (map view (take i inputs)) (map see parts) → IsPartOf scales base (view x) (see part) → AreEach (IsPartOf scales base) (map view (take n inputs)) (map see pushed)
   known_more each here =
-      subst (λ (k : ℕ). AreEach (IsPartOf scales) (map view (take k inputs)) (map see pushed)) (sym n_is)
-      (subst (λ (l : List Part). AreEach (IsPartOf scales) (map view (take (i + 1) inputs)) l) seen (pair_more view inputs i x lt is (IsPartOf scales) (map see parts) (see part) each here))
+      subst (λ (k : ℕ). AreEach (IsPartOf scales base) (map view (take k inputs)) (map see pushed)) (sym n_is)
+      (subst (λ (l : List Part). AreEach (IsPartOf scales base) (map view (take (i + 1) inputs)) l) seen (pair_more view inputs i x lt is (IsPartOf scales base) (map see parts) (see part) each here))

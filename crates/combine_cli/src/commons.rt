@@ -1,11 +1,15 @@
 //! One a priori value and one unit for each name.
 
-ghost use Rattle.std.specs.Prelude.{◌≡◌, ◌≢◌, ◌^◌, All, IfOk, IfErr, Ok, Err, map, flat_map};
+ghost use Rattle.std.specs.Prelude.{◌≡◌, ◌≢◌, ◌^◌, List, All, IfOk, IfErr, Ok, Err, map, flat_map};
 ghost use Rattle.decimal_e.specs.Fractions.{IsAtMost};
 ghost use Rattle.param_ids.specs.Plain.{PlainId};
 ghost use Rattle.snx_blocks.specs.Documents.{IsValid};
 ghost use Rattle.snx_blocks.specs.Views.{doc_view};
-ghost use Rattle.apriori_shift.specs.Answers.{HasFirstRows, common_value};
+ghost use Rattle.snx_rows.specs.declared.rows.Row.{Row as PlainRow};
+ghost use Rattle.stated_order.specs.Steps.{Renamed};
+ghost use Rattle.apriori_shift.specs.Answers.{HasFirstRows, IfClash, common_value};
+ghost use Rattle.apriori_shift.specs.Common.{IsCommon};
+ghost use Rattle.refusal_lines.specs.declared.refusal.Refusal.TheVariants.{UnitClash};
 ghost use Rattle.refusal_lines.specs.Refusals.{status_of};
 ghost use Rattle.run_inputs.specs.Views.{input_view, IfTold};
 ghost use Rattle.combine_cli.specs.Combination.{apriori_rows, is_reference, counted_rows, HaveCommon};
@@ -55,6 +59,17 @@ fn counted_files<'a>(
     Ok(files)
 }
 
+// The refusal of files without common values.
+fn refusal_of_common(error: CommonError) -> Refusal
+    ensures told { (rows : List PlainRow) → IfClash (λ id. IsCommon rows (Err id)) error → IfTold (λ refusal. Renamed UnitClash (IsCommon rows) (Err refusal)) result }
+    ensures no_fault { status_of result ≢ 5 }
+{
+    match error {
+        CommonError::UnitClash { id } => Refusal::UnitClash { id },
+        CommonError::Memory => Refusal::Memory,
+    }
+}
+
 // The common a priori values of the files, or the refusal of a name with two units. Each row of a file has one of its name among them.
 pub fn common_of(alloc: Global, reference: &str, inputs: &[Input<'_>]) -> Result<Apriori, Refusal>
     requires valid { All (λ input. IsValid (doc_view input.doc)) inputs.now }
@@ -68,7 +83,6 @@ pub fn common_of(alloc: Global, reference: &str, inputs: &[Input<'_>]) -> Result
     let files = counted_files(alloc, reference, inputs)?;
     match common(alloc, &files) {
         Ok(base) => Ok(base),
-        Err(CommonError::UnitClash { id }) => Err(Refusal::UnitClash { id }),
-        Err(CommonError::Memory) => Err(Refusal::Memory),
+        Err(error) => Err(refusal_of_common(error)),
     }
 }

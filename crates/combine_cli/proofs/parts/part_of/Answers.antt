@@ -1,21 +1,28 @@
-use Rattle.std.proofs.Common.{◌≡◌, [], Err, string_bytes, ap, ◌∙◌}
-use Rattle.recover_neq.specs.Recovery.{IsRecovered}
-use Rattle.snx_blocks.specs.Views.{doc_view}
+use Rattle.std.proofs.Common.{refl}
+use Rattle.std.proofs.lemmas.Result.{err_from_is_err_and}
+use Rattle.neq_stack.specs.Neqs.{neq_view}
 use Rattle.run_inputs.specs.Views.{input_view}
-use Rattle.combine_cli.specs.Causes.{refusal_of_recovery}
-use Rattle.combine_cli.proofs.PartLaws.{fault_told, part_fault}
+use Rattle.combine_cli.proofs.ShiftedParts.{names_covered, part_given, part_not_shifted, part_not_recovered, part_known}
 use Rattle.combine_cli.proofs.parts.part_of.Goals as goal
 
-pub returns-in_ok-name-in-Err-Fault : goal.returns-in_ok-name-in-Err-Fault
-returns-in_ok-name-in-Err-Fault c =
-    let plan = c.args.input.now.plan.now in
-    let fault = c.in-Err-Fault.fault in
-    let told : c.refusal_of_recovery.result ≡ refusal_of_recovery plan.form (string_bytes plan.name) fault =
-    c.refusal_of_recovery.ensures.told ∙ ap (λ n. refusal_of_recovery plan.form n fault) (c.in_ok-name-in-Err-Fault.ensures.name ∙ c.as_str-in-Err-Fault.ensures.value) in
-    record {
-      part = tt;
-      known = tt;
-      refused = λ a b. rw told (part_fault c.args.scales.now [] (input_view c.args.input.now) fault c.in_default.not-Solution
-          (fault_told fault (λ f. IsRecovered (doc_view c.args.input.now.doc) plan.weight c.args.scales.now (Err f)) (rw c.in-Err-Fault.field-0-is at c.in-Err-Fault.ensures.refused)));
-      no_fault = c.refusal_of_recovery.ensures.no_fault;
-    }
+pub returns-in_err-neq-clause-refused : goal.returns-in_err-neq-clause-refused
+returns-in_err-neq-clause-refused c = λ rows first.
+    let p = err_from_is_err_and c.from_residual.result c.from_residual.ensures.1 in
+    rw (p.1, p.2) (λ a b. part_not_recovered c.args.scales.now rows (input_view c.args.input.now) _ (c.in_err-neq.ensures.refused a b))
+
+pub shifted-requires-clause-known : goal.shifted-requires-clause-known
+shifted-requires-clause-known c = names_covered c.args.scales.now (input_view c.args.input.now) (neq_view c.in_ok-neq.neq) c.in_ok-neq.ensures.known c.args.base.now c.requires.covered
+
+pub returns-in_err-shifted-clause-refused : goal.returns-in_err-shifted-clause-refused
+returns-in_err-shifted-clause-refused c = λ rows first.
+    let p = err_from_is_err_and c.from_residual-in_err-shifted.result c.from_residual-in_err-shifted.ensures.1 in
+    rw (p.1, p.2) (λ a b. part_not_shifted c.args.scales.now rows (input_view c.args.input.now) (neq_view c.in_ok-neq.neq) c.in_ok-neq.ensures.recovers _ (c.in_err-shifted.ensures.refused rows first a b))
+
+pub returns-clause-part : goal.returns-clause-part
+returns-clause-part c = λ rows first.
+    part_given c.args.scales.now rows (input_view c.args.input.now) (neq_view c.in_ok-neq.neq) c.in_ok-neq.ensures.recovers _ refl (c.in_ok-shifted.ensures.shifts rows first)
+
+pub returns-clause-known : goal.returns-clause-known
+returns-clause-known c = λ rows first.
+    part_known c.args.scales.now rows (input_view c.args.input.now) (neq_view c.in_ok-neq.neq) (neq_view c.shifted.new.neq) c.in_ok-neq.ensures.known (c.in_ok-shifted.ensures.shifts rows first) _ refl refl
+    c.in_ok-shifted.ensures.sound c.in_ok-shifted.ensures.modest
