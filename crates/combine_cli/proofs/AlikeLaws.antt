@@ -1,11 +1,12 @@
 -- Alike controls are admitted together, and give the same texts.
-use Rattle.std.proofs.Common.{◌≡◌, ◌∙◌, ◌++◌, ◌∷◌, Bool, true, false, cond, List, [], map, append-nil, append_assoc, Option, Some, None, Ok, refl, ap, sym, subst}
+use Rattle.std.proofs.Common.{◌≡◌, ◌∙◌, ◌++◌, ◌∷◌, ℕ, Bool, true, false, cond, List, [], map, append-nil, append_assoc, Option, Some, None, Ok, refl, ap, sym, subst}
 use Rattle.std.specs.Prelude.{All}
-use Rattle.std.specs.List.{Any, AllByRecursion, find}
+use Rattle.std.specs.List.{AllByRecursion, filter, find, flat_map}
+use Rattle.std.specs.Str.{bytes_eq}
 use Rattle.std.proofs.lemmas.List.Elements.{All-from_recursion, recursion_from_All}
 use Rattle.std.proofs.lemmas.List.Sorted.{IsPermutation-sym, All-permutation}
 use Rattle.stated_order.specs.Lists.{AreEach}
-use Rattle.stated_order.specs.Steps.{InTurn}
+use Rattle.stated_order.specs.Steps.{InTurn, Then}
 use Rattle.stated_order.proofs.StepLaws.{then_gives}
 use Rattle.decimal_e.specs.Decimals.{Decimal}
 use Rattle.param_ids.specs.Tables.{ScaleMap}
@@ -17,38 +18,59 @@ use Rattle.control_doc.specs.declared.plans.Form.TheVariants as forms
 use Rattle.neq_stack.specs.Neqs.{PlainNeq, IsSound}
 use Rattle.neq_stack.specs.Stacks.{IsStackOf}
 use Rattle.recover_neq.specs.Recovery.{IsRecovered}
+use Rattle.apriori_shift.specs.Common.{IsCommon}
 use Rattle.run_inputs.specs.Words.{CombinedFiles}
 use Rattle.run_inputs.specs.Controls.{is_named, apart_from, apart, built_of, built}
 use Rattle.run_inputs.specs.Inputs.{PlainInput, ReadsInputs}
 use Rattle.combine_cli.specs.Alike.{ungrouped, AreAlike, AlikeAreAdmitted, AlikeCombine}
-use Rattle.combine_cli.specs.Combination.{apriori_rows, Clash, ClashesWith, IsAgreed, AreAgreed, RecoversBy, Recovers, Part, IsPart, AreParts, Group, members, IsGroupStack, AreGroupStacks, IsWholeStack, StacksParts, Texts, IsCombined}
+use Rattle.combine_cli.specs.Combination.{apriori_rows, is_reference, counted_rows, HaveCommon, RecoversBy, Recovers, Shifts, Part, IsPart, AreParts, Group, members, IsGroupStack, AreGroupStacks, IsWholeStack, StacksParts, AddsDatum, Reports, Texts, IsCombined}
 use Rattle.combine_cli.specs.Parts.{neqs_of}
 use Rattle.neq_stack.proofs.Laws.{stacks_regroup, stacks_move, some_have_stack}
-use Rattle.combine_cli.proofs.EachLaws.{maps_from_each, any_alike, went_on, in_turn_alike}
+use Rattle.combine_cli.proofs.EachLaws.{maps_from_each, went_on, in_turn_alike}
 use Rattle.combine_cli.proofs.GroupLaws.{plans_in, all_members, members_among, groups_part, groups_exist}
 use Rattle.combine_cli.proofs.SoundParts.{parts_made, parts_sound}
 use Rattle.combine_cli.proofs.RunLaws.{not_found}
 use Rattle.combine_cli.proofs.UngroupLaws.{stacks_ungroup}
-use Rattle.combine_cli.proofs.AlikeInputs.{SamePlan, SameInput, inputs_alike}
+use Rattle.combine_cli.proofs.AlikeInputs.{SamePlan, SameInput, same_name, inputs_alike}
 
--- ---- one a priori value for each name
-clash_kept : (before others : List PlainInput) (one other : PlainInput) → AreEach SameInput before others → SameInput one other → ClashesWith others other → ClashesWith before one
-clash_kept before others one other each same clash =
-    let in_rows = λ (row : Row) (doc : PlainDoc). Any (Clash row) (apriori_rows doc.apriori) in
-    let in_files = λ (doc : PlainDoc) (inputs : List PlainInput). Any (λ (row : Row). Any (λ (earlier : PlainInput). in_rows row earlier.doc) inputs) (apriori_rows doc.apriori) in
-    let here : in_files one.doc others = subst (λ doc. in_files doc others) (sym same.doc) clash in (
-      here.0,
-      here.1,
-      here.2,
-      here.3,
-      any_alike SameInput (λ (earlier : PlainInput). in_rows here.1 earlier.doc) (λ (earlier : PlainInput). in_rows here.1 earlier.doc)
-          (λ x y r q. subst (λ doc. in_rows here.1 doc) (sym r.doc) q) before others each here.4,
-    )
+-- ---- common a priori values and units
+each_append : {A B : Type 0} (R : A → B → Type 0) (xs more : List A) (ys others : List B) → AreEach R xs ys → AreEach R more others → AreEach R (xs ++ more) (ys ++ others)
+each_append R [] more [] others each rest = rest
+each_append R [] more (y ∷ ys) others each rest = absurd each
+each_append R (x ∷ xs) more [] others each rest = absurd each
+each_append R (x ∷ xs) more (y ∷ ys) others each rest = (each.0, each_append R xs more ys others each.1 rest)
 
-agreed_kept : (before others : List PlainInput) (one other given : PlainInput) → AreEach SameInput before others → SameInput one other → IsAgreed before one (Ok given)
-    → (kept : PlainInput) × IsAgreed others other (Ok kept) × SameInput given kept
-agreed_kept before others one other given each same h =
-    (other, (refl, λ clash. h.1 (clash_kept before others one other each same clash)), subst (λ (i : PlainInput). SameInput i other) (sym h.0) same)
+rows_kept : (inputs others : List PlainInput) → AreEach SameInput inputs others → flat_map (λ (input : PlainInput). apriori_rows input.doc.apriori) inputs ≡ flat_map (λ (input : PlainInput). apriori_rows input.doc.apriori) others
+rows_kept [] [] each = refl
+rows_kept [] (other ∷ others) each = absurd each
+rows_kept (one ∷ inputs) [] each = absurd each
+rows_kept (one ∷ inputs) (other ∷ others) each =
+    let head : apriori_rows one.doc.apriori ≡ apriori_rows other.doc.apriori = ap (λ (doc : PlainDoc). apriori_rows doc.apriori) each.0.doc in
+    let tail = rows_kept inputs others each.1 in
+    λ i. head i ++ tail i
+
+module _ (reference : List ℕ) where
+  reference_kept : (inputs others : List PlainInput) → AreEach SameInput inputs others → AreEach SameInput (filter (is_reference reference) inputs) (filter (is_reference reference) others)
+  reference_kept [] [] each = tt
+  reference_kept [] (other ∷ others) each = absurd each
+  reference_kept (one ∷ inputs) [] each = absurd each
+  reference_kept (one ∷ inputs) (other ∷ others) each =
+      let mine = filter (is_reference reference) inputs in
+      let theirs = filter (is_reference reference) others in
+      subst (λ (passes : Bool). AreEach SameInput (cond (is_reference reference one) (one ∷ mine) mine) (cond passes (other ∷ theirs) theirs))
+      (ap (λ (name : List ℕ). bytes_eq name reference) (same_name one.plan other.plan each.0.plan)) (by_test (is_reference reference one) mine theirs (reference_kept inputs others each.1))
+    where
+      by_test : (passes : Bool) (mine theirs : List PlainInput) → AreEach SameInput mine theirs → AreEach SameInput (cond passes (one ∷ mine) mine) (cond passes (other ∷ theirs) theirs)
+      by_test true mine theirs rest = (each.0, rest)
+      by_test false mine theirs rest = rest
+
+  counted_kept : (inputs others : List PlainInput) → AreEach SameInput inputs others → counted_rows reference inputs ≡ counted_rows reference others
+  counted_kept inputs others each =
+      rows_kept (filter (is_reference reference) inputs ++ inputs) (filter (is_reference reference) others ++ others)
+      (each_append SameInput (filter (is_reference reference) inputs) inputs (filter (is_reference reference) others) others (reference_kept inputs others each) each)
+
+  common_kept : (inputs others : List PlainInput) (base : List Row) → AreEach SameInput inputs others → HaveCommon reference inputs (Ok base) → HaveCommon reference others (Ok base)
+  common_kept inputs others base each h = subst (λ (rows : List Row). IsCommon rows (Ok base)) (counted_kept inputs others each) h
 
 -- ---- the normal equations of each file
 record SamePart (one other : Part) : Type 0 where
@@ -60,20 +82,21 @@ recovers_kept forms.Auto one other scales doc neq same h = subst (λ (weight : D
 recovers_kept forms.Neq one other scales doc neq same h = subst (λ (weight : Decimal). IsRecovered doc weight scales (Ok neq)) same h
 recovers_kept forms.Solution one other scales doc neq same h = absurd (cc)
 
-module _ (scales : ScaleMap) where
-  part_kept : (before others : List Part) (one other : PlainInput) (part : Part) → AreEach SamePart before others → SameInput one other → IsPart scales before one (Ok part)
-      → (kept : Part) × IsPart scales others other (Ok kept) × SamePart part kept
+module _ (scales : ScaleMap) (base : List Row) where
+  part_kept : (before others : List Part) (one other : PlainInput) (part : Part) → AreEach SamePart before others → SameInput one other → IsPart scales base before one (Ok part)
+      → (kept : Part) × IsPart scales base others other (Ok kept) × SamePart part kept
   part_kept before others one other part each same h =
       let f = went_on (Recovers one.plan scales one.doc) _ part h in
-      let is : part ≡ record { plan = one.plan; neq = f.gives } = let e = f.onward in cc in
-      let kept : Part = record { plan = other.plan; neq = f.gives } in
+      let g = went_on (Shifts one.plan.name base f.gives) _ part f.onward in
+      let is : part ≡ record { plan = one.plan; neq = g.gives } = let e = g.onward in cc in
+      let kept : Part = record { plan = other.plan; neq = g.gives } in
       let form : one.plan.form ≡ other.plan.form = ap (λ (plan : PlainPlan). plan.form) same.plan in
       let weight : one.plan.weight ≡ other.plan.weight = ap (λ (plan : PlainPlan). plan.weight) same.plan in
       let given : Recovers other.plan scales other.doc (Ok f.gives) =
       subst (λ (doc : PlainDoc). Recovers other.plan scales doc (Ok f.gives)) same.doc
       (subst (λ (form : Form). RecoversBy form other.plan scales one.doc (Ok f.gives)) form (recovers_kept one.plan.form one.plan other.plan scales one.doc f.gives weight f.given)) in (
         kept,
-        then_gives (Recovers other.plan scales other.doc) _ f.gives (Ok kept) given refl,
+        then_gives (Recovers other.plan scales other.doc) _ f.gives (Ok kept) given (then_gives (Shifts other.plan.name base f.gives) _ g.gives (Ok kept) g.given refl),
         subst (λ (p : Part). SamePart p kept) (sym is) (record { plan = same.plan; neq = refl }),
       )
 
@@ -121,25 +144,37 @@ module _ (parts : List Part) (neq : PlainNeq) (sound : All IsSound (neqs_of part
       (found.0, found.1, then_gives (AreGroupStacks parts found.0) IsWholeStack stacks.0 (Ok neq) (each_group_stacks parts [] found.0 stacks.0 stacks.1) whole)
 
 -- ---- all steps
-combined_kept : (scales : ScaleMap) (inputs others : List PlainInput) (texts : Texts) → AreEach SameInput inputs others → IsCombined scales inputs (Ok texts) → IsCombined scales others (Ok texts)
-combined_kept scales inputs others texts each h =
-    let a = went_on (AreAgreed inputs) _ texts h in
-    let b = went_on (AreParts scales a.gives) _ texts a.onward in
+abbrev CombinedBy : List ℕ → ScaleMap → Option PlainDatum → List PlainInput → Texts → Type 0
+CombinedBy reference scales datum inputs texts =
+    Then (HaveCommon reference inputs) (λ base.
+    Then (AreParts scales base inputs) (λ parts.
+    Then (StacksParts parts) (λ free.
+    Then (AddsDatum datum free) (λ neq.
+    Then (Reports neq) (λ report r.
+    r ≡ Ok (record { out = []; report = report })))))) (Ok texts)
+
+combined_kept : (reference : List ℕ) (scales : ScaleMap) (datum : Option PlainDatum) (inputs others : List PlainInput) (texts : Texts) → AreEach SameInput inputs others
+    → CombinedBy reference scales datum inputs texts → CombinedBy reference scales datum others texts
+combined_kept reference scales datum inputs others texts each h =
+    let a = went_on (HaveCommon reference inputs) _ texts h in
+    let b = went_on (AreParts scales a.gives inputs) _ texts a.onward in
     let c = went_on (StacksParts b.gives) _ texts b.onward in
-    let agreed = in_turn_alike IsAgreed IsAgreed SameInput SameInput agreed_kept [] [] inputs others a.gives tt each a.given in
-    let parts = in_turn_alike (IsPart scales) (IsPart scales) SameInput SamePart (part_kept scales) [] [] a.gives agreed.0 b.gives tt agreed.2 b.given in
+    let parts = in_turn_alike (IsPart scales a.gives) (IsPart scales a.gives) SameInput SamePart (part_kept scales a.gives) [] [] inputs others b.gives tt each b.given in
     let same : neqs_of b.gives ≡ neqs_of parts.0 = maps_from_each SamePart (λ (p : Part). p.neq) (λ (p : Part). p.neq) (λ one other r. r.neq) b.gives parts.0 parts.2 in
     let stack : IsStackOf (neqs_of parts.0) c.gives = subst (λ (neqs : List PlainNeq). IsStackOf neqs c.gives) same (whole_is_of_parts b.gives c.gives c.given) in
-    let sound = parts_sound (neqs_of parts.0) c.gives (parts_made scales agreed.0 parts.0 parts.1) stack in
-    then_gives (AreAgreed others) _ agreed.0 (Ok texts) agreed.1
-    (then_gives (AreParts scales agreed.0) _ parts.0 (Ok texts) parts.1 (then_gives (StacksParts parts.0) _ c.gives (Ok texts) (parts_stacked parts.0 c.gives sound stack) c.onward))
+    let sound = parts_sound (neqs_of parts.0) c.gives (parts_made scales a.gives others parts.0 parts.1) stack in
+    then_gives (HaveCommon reference others) _ a.gives (Ok texts) (common_kept reference inputs others a.gives each a.given)
+    (then_gives (AreParts scales a.gives others) _ parts.0 (Ok texts) parts.1 (then_gives (StacksParts parts.0) _ c.gives (Ok texts) (parts_stacked parts.0 c.gives sound stack) c.onward))
 
 pub alike_combine : AlikeCombine
 alike_combine files one other texts alike h =
     let f = went_on (ReadsInputs one.files files) _ texts h in
     let read = inputs_alike files one other f.gives alike f.given in
-    then_gives (ReadsInputs other.files files) (IsCombined other.scales) read.0 (Ok texts) read.1
-    (subst (λ (scales : ScaleMap). IsCombined scales read.0 (Ok texts)) alike.scales (combined_kept one.scales f.gives read.0 texts read.2 f.onward))
+    let kept = combined_kept one.run.reference one.scales one.datum f.gives read.0 texts read.2 f.onward in
+    let referred = subst (λ (reference : List ℕ). CombinedBy reference one.scales one.datum read.0 texts) alike.reference kept in
+    let scaled = subst (λ (scales : ScaleMap). CombinedBy other.run.reference scales one.datum read.0 texts) alike.scales referred in
+    then_gives (ReadsInputs other.files files) (IsCombined other) read.0 (Ok texts) read.1
+    (subst (λ (datum : Option PlainDatum). CombinedBy other.run.reference other.scales datum read.0 texts) alike.datum scaled)
 
 -- ---- admitted together
 unnamed : (test : PlainPlan → Bool) (plans : List PlainPlan) → find test plans ≡ None → AllByRecursion (λ plan. test plan ≡ false) plans
@@ -172,9 +207,7 @@ apart_kept names one other alike kept =
     ap apart_from (none_named (is_named names) other.files (from_ungrouped Unnamed (λ plan e. e) other.files moved))
 
 built_kept : (names : CombinedFiles) (one other : PlainControl) → AreAlike one other → built names one ≡ Ok tt → built names other ≡ Ok tt
-built_kept names one other alike h =
-    subst (λ (reductions : List PlainReduction). built_of names.control other.datum reductions ≡ Ok tt) alike.reductions
-    (subst (λ (datum : Option PlainDatum). built_of names.control datum one.reductions ≡ Ok tt) alike.datum h)
+built_kept names one other alike h = subst (λ (reductions : List PlainReduction). built_of names.control reductions ≡ Ok tt) alike.reductions h
 
 pub alike_admitted : AlikeAreAdmitted
 alike_admitted names one other alike kept done = (apart_kept names one other alike kept, built_kept names one other alike done)

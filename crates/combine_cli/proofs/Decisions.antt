@@ -17,18 +17,18 @@ use Rattle.combine_cli.proofs.Verdicts.{by_texts}
 
 -- ---- the texts of files that were read
 module _ (control : PlainControl) (files : List ℕ → Option File) (inputs : List PlainInput) (reads : ReadsInputs control.files files (Ok inputs)) where
-  pub texts_known : (r : Result Combined Refusal) → IfOk r (λ combined. IsCombined control.scales inputs (Ok (texts_view combined)))
-      → IfOk r (λ combined. IsCertifiedReport control.scales inputs combined.report.items) → IfOk r (λ combined. IsTextsOf control files (texts_view combined))
+  pub texts_known : (r : Result Combined Refusal) → IfOk r (λ combined. IsCombined control inputs (Ok (texts_view combined)))
+      → IfOk r (λ combined. IsCertifiedReport control inputs combined.report.items) → IfOk r (λ combined. IsTextsOf control files (texts_view combined))
   texts_known (Ok combined) is certified = record { inputs = inputs; reads = reads; combined = is; certified = certified }
   texts_known (Err refusal) is certified = tt
 
-  pub texts_refused : (r : Result Combined Refusal) → IfErr r (IfTold (λ refusal. IsCombined control.scales inputs (Err refusal)))
+  pub texts_refused : (r : Result Combined Refusal) → IfErr r (IfTold (λ refusal. IsCombined control inputs (Err refusal)))
       → IfErr r (IfTold (λ refusal. Combines control files (Err refusal)))
   texts_refused (Ok combined) h = tt
-  texts_refused (Err refusal) h = λ a b. then_gives (ReadsInputs control.files files) (IsCombined control.scales) inputs (Err refusal) reads (h a b)
+  texts_refused (Err refusal) h = λ a b. then_gives (ReadsInputs control.files files) (IsCombined control) inputs (Err refusal) reads (h a b)
 
 pub inputs_refused : (control : PlainControl) (files : List ℕ → Option File) (refusal : Refusal) → ReadsInputs control.files files (Err refusal) → Combines control files (Err refusal)
-inputs_refused control files refusal h = then_stops (ReadsInputs control.files files) (IsCombined control.scales) refusal h
+inputs_refused control files refusal h = then_stops (ReadsInputs control.files files) (IsCombined control) refusal h
 
 -- ---- after the control was read, which leaves the files as they were
 module _ (words : List (List ℕ)) (old mid : Content) (command : PlainCommand) (control : PlainControl) (are : AreCommand words command)

@@ -1,5 +1,5 @@
 -- Files that were read have one combination at most: texts, or one first refusal.
-use Rattle.std.proofs.Common.{◌≡◌, ◌∙◌, List, [], map, Bool, true, false, Ok, Err, refl, ap, sym, subst}
+use Rattle.std.proofs.Common.{◌≡◌, ◌∙◌, ℕ, List, [], map, Bool, true, false, Option, Some, None, Ok, Err, length, refl, ap, sym, subst}
 use Rattle.std.specs.Prelude.{Contains, IsTrue, ◌↔◌}
 use Rattle.std.specs.Cmp.{IsTotalOrder}
 use Rattle.std.specs.declared.cmp.Ordering.{Ordering}
@@ -12,31 +12,35 @@ use Rattle.std.proofs.lemmas.Map.Views.{btree_set_contains_iff}
 use Rattle.stated_order.specs.Steps.{IsOne, Then}
 use Rattle.stated_order.proofs.StepLaws.{gives_or_refuses, then_is_one, in_turn_is_one, renamed_is_one}
 use Rattle.param_ids.specs.Tables.{ScaleMap}
+use Rattle.snx_rows.specs.declared.rows.Row.{Row}
 use Rattle.snx_blocks.specs.Documents.{PlainDoc}
-use Rattle.control_doc.specs.Plain.{PlainPlan}
+use Rattle.control_doc.specs.Plain.{PlainPlan, PlainDatum, PlainControl}
 use Rattle.control_doc.specs.declared.plans.Form.{Form}
 use Rattle.control_doc.specs.declared.plans.Form.TheVariants as forms
 use Rattle.neq_stack.specs.Neqs.{PlainNeq}
 use Rattle.neq_stack.specs.Stacks.{IsStacked}
 use Rattle.recover_neq.specs.Recovery.{IsRecovered}
+use Rattle.recover_neq.specs.Blocks.{value_of}
 use Rattle.recover_neq.proofs.Alone.{recovered_is_one}
+use Rattle.apriori_shift.specs.Common.{IsCommon}
+use Rattle.apriori_shift.specs.Shifts.{IsShift}
+use Rattle.apriori_shift.proofs.Alone.{one_shift}
+use Rattle.apriori_shift.proofs.CommonLaws.{one_common}
+use Rattle.datum_rows.specs.Additions.{IsAddition}
+use Rattle.datum_rows.proofs.Alone.{one_addition}
 use Rattle.stack_rules.specs.Rules.{IsAnswer}
 use Rattle.stack_rules.proofs.Alone.{answer_is_one}
 use Rattle.bounds_text.specs.Report.{numbers_report}
 use Rattle.run_inputs.specs.Inputs.{PlainInput}
-use Rattle.combine_cli.specs.Causes.{refusal_of_recovery, refusal_of_rules}
-use Rattle.combine_cli.specs.Combination.{IsAgreed, AreAgreed, RecoversBy, Recovers, Part, IsPart, AreParts, Group, place_of, group_cmp, AreGroups, IsGroupStack, AreGroupStacks, IsWholeStack, StacksParts, stack_in, Reports, IsCombined}
+use Rattle.refusal_lines.specs.declared.refusal.Refusal.TheVariants.{UnitClash}
+use Rattle.combine_cli.specs.Causes.{refusal_of_recovery, refusal_of_shift, refusal_of_datum, refusal_of_rules}
+use Rattle.combine_cli.specs.Combination.{counted_rows, HaveCommon, RecoversBy, Recovers, Shifts, Part, IsPart, AreParts, Group, place_of, group_cmp, AreGroups, IsGroupStack, AreGroupStacks, IsWholeStack, StacksParts, AddsDatum, stack_in, Reports, IsCombined}
+use Rattle.combine_cli.proofs.EachLaws.{went_on}
 use Rattle.neq_stack.proofs.Laws.{stack_is_one}
 
--- ---- one a priori value for each name
-agreed_step_is_one : (before : List PlainInput) (input : PlainInput) → IsOne (IsAgreed before input)
-agreed_step_is_one before input (Ok a) (Ok b) h k = ap Ok (h.0 ∙ sym k.0)
-agreed_step_is_one before input (Ok a) (Err d) h k = absurd (h.1 k.1)
-agreed_step_is_one before input (Err c) (Ok b) h k = absurd (k.1 h.1)
-agreed_step_is_one before input (Err c) (Err d) h k = ap Err (h.0 ∙ sym k.0)
-
-agreed_is_one : (inputs : List PlainInput) → IsOne (AreAgreed inputs)
-agreed_is_one inputs = in_turn_is_one IsAgreed agreed_step_is_one [] inputs
+-- ---- common a priori values and units
+common_is_one : (reference : List ℕ) (inputs : List PlainInput) → IsOne (HaveCommon reference inputs)
+common_is_one reference inputs = renamed_is_one UnitClash (IsCommon (counted_rows reference inputs)) (one_common (counted_rows reference inputs))
 
 -- ---- the normal equations of each file
 recovers_is_one : (form : Form) (plan : PlainPlan) (scales : ScaleMap) (doc : PlainDoc) → IsOne (RecoversBy form plan scales doc)
@@ -44,11 +48,16 @@ recovers_is_one forms.Auto plan scales doc = renamed_is_one (refusal_of_recovery
 recovers_is_one forms.Neq plan scales doc = renamed_is_one (refusal_of_recovery forms.Neq plan.name) (IsRecovered doc plan.weight scales) (recovered_is_one doc plan.weight scales)
 recovers_is_one forms.Solution plan scales doc = λ r s a b. a ∙ sym b
 
-part_is_one : (scales : ScaleMap) (before : List Part) (input : PlainInput) → IsOne (IsPart scales before input)
-part_is_one scales before input = then_is_one (Recovers input.plan scales input.doc) _ (recovers_is_one input.plan.form input.plan scales input.doc) (λ neq given r s a b. a ∙ sym b)
+shifts_is_one : (name : List ℕ) (base : List Row) (neq : PlainNeq) → IsOne (Shifts name base neq)
+shifts_is_one name base neq = renamed_is_one (refusal_of_shift name neq.names) (IsShift (map (value_of base) neq.names) neq) (one_shift (map (value_of base) neq.names) neq)
 
-parts_are_one : (scales : ScaleMap) (inputs : List PlainInput) → IsOne (AreParts scales inputs)
-parts_are_one scales inputs = in_turn_is_one (IsPart scales) (part_is_one scales) [] inputs
+part_is_one : (scales : ScaleMap) (base : List Row) (before : List Part) (input : PlainInput) → IsOne (IsPart scales base before input)
+part_is_one scales base before input =
+    then_is_one (Recovers input.plan scales input.doc) _ (recovers_is_one input.plan.form input.plan scales input.doc) (λ recovered given.
+    then_is_one (Shifts input.plan.name base recovered) _ (shifts_is_one input.plan.name base recovered) (λ neq moved r s a b. a ∙ sym b))
+
+parts_are_one : (scales : ScaleMap) (base : List Row) (inputs : List PlainInput) → IsOne (AreParts scales base inputs)
+parts_are_one scales base inputs = in_turn_is_one (IsPart scales base) (part_is_one scales base) [] inputs
 
 -- ---- groups
 pub group_total : IsTotalOrder group_cmp
@@ -110,6 +119,15 @@ stacks_parts_is_one parts one other h k =
     let same : h.0 ≡ k.0 = groups_are_one (map (λ (part : Part). part.plan) parts) h.0 k.0 h.1 k.1 in
     then_stack_is_one parts k.0 one other (subst (λ groups. Then (AreGroupStacks parts groups) IsWholeStack one) same h.2) k.2
 
+-- a stack of parts has as many rows as names
+pub stacked_rows : (parts : List Part) (free : PlainNeq) → StacksParts parts (Ok free) → free.table.size ≡ length free.names
+stacked_rows parts free h = (went_on (AreGroupStacks parts h.0) IsWholeStack free h.2).onward.sound.rows
+
+-- ---- the datum
+adds_datum_is_one : (datum : Option PlainDatum) (free : PlainNeq) → free.table.size ≡ length free.names → IsOne (AddsDatum datum free)
+adds_datum_is_one None free rows = λ r s a b. a ∙ sym b
+adds_datum_is_one (Some datum) free rows = renamed_is_one (refusal_of_datum free.names) (IsAddition datum free) (one_addition datum free rows)
+
 -- ---- the rules
 reports_is_one : (neq : PlainNeq) → IsOne (Reports neq)
 reports_is_one neq (Ok a) (Ok b) h k =
@@ -124,9 +142,10 @@ reports_is_one neq (Err c) (Err d) h k =
     ap Err (h.2 ∙ ap (refusal_of_rules neq.names) cause ∙ sym k.2)
 
 -- ---- all steps
-pub combined_is_one : (scales : ScaleMap) (inputs : List PlainInput) → IsOne (IsCombined scales inputs)
-combined_is_one scales inputs =
-    then_is_one (AreAgreed inputs) _ (agreed_is_one inputs) (λ agreed given.
-    then_is_one (AreParts scales agreed) _ (parts_are_one scales agreed) (λ parts found.
-    then_is_one (StacksParts parts) _ (stacks_parts_is_one parts) (λ neq stacked.
-    then_is_one (Reports neq) _ (reports_is_one neq) (λ report told r s a b. a ∙ sym b))))
+pub combined_is_one : (control : PlainControl) (inputs : List PlainInput) → IsOne (IsCombined control inputs)
+combined_is_one control inputs =
+    then_is_one (HaveCommon control.run.reference inputs) _ (common_is_one control.run.reference inputs) (λ base common.
+    then_is_one (AreParts control.scales base inputs) _ (parts_are_one control.scales base inputs) (λ parts found.
+    then_is_one (StacksParts parts) _ (stacks_parts_is_one parts) (λ free stacked.
+    then_is_one (AddsDatum control.datum free) _ (adds_datum_is_one control.datum free (stacked_rows parts free stacked)) (λ neq added.
+    then_is_one (Reports neq) _ (reports_is_one neq) (λ report told r s a b. a ∙ sym b)))))

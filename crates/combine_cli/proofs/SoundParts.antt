@@ -1,5 +1,5 @@
 -- The parts of a stack are sound: what a part has of a parameter, the stack has.
-use Rattle.std.proofs.Common.{◌≡◌, ◌∙◌, ◌++◌, ◌∷◌, ◌<◌, ◌^◌, ℕ, ℤ, zero, suc, List, [], length, get_or, slice_get, Some, Ok, refl, ap, sym, subst, arith}
+use Rattle.std.proofs.Common.{◌≡◌, ◌∙◌, ◌++◌, ◌∷◌, ◌<◌, ◌^◌, ℕ, ℤ, zero, suc, inl, inr, List, [], length, get_or, map, slice_get, Some, Ok, refl, ap, sym, subst, arith}
 use Rattle.std.proofs.lemmas.List.{length-map}
 use Rattle.std.specs.Prelude.{All, Contains}
 use Rattle.std.proofs.lemmas.Option.{slice_get-get_or, same_Some}
@@ -8,7 +8,11 @@ use Rattle.stated_order.specs.Steps.{InTurn}
 use Rattle.decimal_e.specs.Decimals.{Decimal}
 use Rattle.decimal_e.specs.Fractions.{IsAtMost}
 use Rattle.param_ids.specs.Plain.{PlainId}
+use Rattle.param_ids.specs.Order.{IsNames}
 use Rattle.param_ids.specs.Tables.{ScaleMap, IsScale}
+use Rattle.snx_rows.specs.declared.rows.Row.{Row}
+use Rattle.whole_numbers.specs.Intervals.{Interval}
+use Rattle.sym_blocks.specs.Tables.{before}
 use Rattle.snx_blocks.specs.Documents.{PlainDoc}
 use Rattle.control_doc.specs.Plain.{PlainPlan}
 use Rattle.control_doc.specs.declared.plans.Form.{Form}
@@ -16,53 +20,91 @@ use Rattle.control_doc.specs.declared.plans.Form.TheVariants as forms
 use Rattle.neq_stack.specs.Neqs.{PlainNeq, IsSound}
 use Rattle.neq_stack.specs.ByName.{Parameter, HasParameter}
 use Rattle.neq_stack.specs.Stacks.{IsStackOf}
-use Rattle.recover_neq.specs.Blocks.{Blocks}
+use Rattle.recover_neq.specs.Blocks.{Blocks, value_of}
 use Rattle.recover_neq.specs.Recovery.{IsNeqOf, IsRecovered}
+use Rattle.difference_products.specs.Products.{IsProduct}
+use Rattle.apriori_shift.specs.Shifts.{IsShift, IsLessBy, factors_in, moved_to}
+use Rattle.apriori_shift.proofs.RightLaws.{products_length, less_length}
 use Rattle.run_inputs.specs.Inputs.{PlainInput}
-use Rattle.combine_cli.specs.Combination.{RecoversBy, Recovers, Part, IsPart, AreParts}
+use Rattle.combine_cli.specs.Combination.{RecoversBy, Recovers, Shifts, Part, IsPart, AreParts}
 use Rattle.combine_cli.proofs.EachLaws.{went_on}
 use Rattle.combine_cli.specs.Parts.{neqs_of}
 
--- ---- recovered normal equations
+-- ---- normal equations of a file
+-- as many rows, right sides, values, units and exponents as names, which stand in order
 pub record IsMade (neq : PlainNeq) : Type 0 where
-  pub blocks : Blocks
-  pub weight : Decimal
-  pub scales : ScaleMap
-  pub is : IsNeqOf blocks weight scales neq
+  pub names : IsNames neq.names
+  pub rows : neq.table.size ≡ length neq.names
+  pub entries : length neq.table.entries ≡ before neq.table.size
+  pub rights : length neq.right ≡ length neq.names
+  pub values : length neq.apriori ≡ length neq.names
+  pub named_units : length neq.units ≡ length neq.names
+  pub exponents : length neq.scales ≡ length neq.names
+
+neq_made : (blocks : Blocks) (weight : Decimal) (scales : ScaleMap) (neq : PlainNeq) → IsNeqOf blocks weight scales neq → IsMade neq
+neq_made blocks weight scales neq is = record {
+  names = is.names.1;
+  rows = is.rows;
+  entries = is.lower;
+  rights = ap length is.right ∙ length-map neq.names _;
+  values = ap length is.apriori ∙ length-map neq.names _;
+  named_units = ap length is.units ∙ length-map neq.names _;
+  exponents = ap length is.exponents ∙ length-map neq.names _;
+}
 
 recovered_made : (doc : PlainDoc) (weight : Decimal) (scales : ScaleMap) (neq : PlainNeq) → IsRecovered doc weight scales (Ok neq) → IsMade neq
 recovered_made doc weight scales neq h =
     let a = went_on _ _ neq h in
     let b = went_on _ _ neq a.onward in
     let c = went_on _ _ neq b.onward in
-    record { blocks = a.gives; weight = weight; scales = scales; is = c.onward.0 }
+    neq_made a.gives weight scales neq c.onward.0
 
 form_made : (form : Form) (plan : PlainPlan) (scales : ScaleMap) (doc : PlainDoc) (neq : PlainNeq) → RecoversBy form plan scales doc (Ok neq) → IsMade neq
 form_made forms.Auto plan scales doc neq h = recovered_made doc plan.weight scales neq h
 form_made forms.Neq plan scales doc neq h = recovered_made doc plan.weight scales neq h
 form_made forms.Solution plan scales doc neq h = absurd (cc)
 
-part_made : (scales : ScaleMap) (before : List Part) (input : PlainInput) (part : Part) → IsPart scales before input (Ok part) → IsMade part.neq
-part_made scales before input part h =
+-- a shift keeps them so
+moved_made : (values : List Decimal) (neq : PlainNeq) (products : List Interval) → length values ≡ length neq.names → length products ≡ neq.table.size → IsMade neq → IsMade (moved_to values neq products)
+moved_made values neq products long many made = record {
+  names = made.names;
+  rows = made.rows;
+  entries = made.entries;
+  rights = less_length neq.right products (many ∙ made.rows ∙ sym made.rights) ∙ made.rights;
+  values = long;
+  named_units = made.named_units;
+  exponents = made.exponents;
+}
+
+shifted_made : (values : List Decimal) (neq after : PlainNeq) → length values ≡ length neq.names → IsMade neq → IsShift values neq (Ok after) → IsMade after
+shifted_made values neq after long made (inl kept) = let e = kept.1 in let same : after ≡ neq = cc in subst IsMade (sym same) made
+shifted_made values neq after long made (inr moved) =
+    let f = went_on (IsProduct (factors_in neq moved.1.0)) (IsLessBy values neq) after moved.1.2 in
+    subst IsMade (sym f.onward.1) (moved_made values neq f.gives long (products_length (factors_in neq moved.1.0) f.gives f.given) made)
+
+part_made : (scales : ScaleMap) (base : List Row) (before : List Part) (input : PlainInput) (part : Part) → IsPart scales base before input (Ok part) → IsMade part.neq
+part_made scales base before input part h =
     let f = went_on (Recovers input.plan scales input.doc) _ part h in
-    let is : part ≡ record { plan = input.plan; neq = f.gives } = let e = f.onward in cc in
-    subst (λ (p : Part). IsMade p.neq) (sym is) (form_made input.plan.form input.plan scales input.doc f.gives f.given)
+    let g = went_on (Shifts input.plan.name base f.gives) _ part f.onward in
+    let is : part ≡ record { plan = input.plan; neq = g.gives } = let e = g.onward in cc in
+    let made = form_made input.plan.form input.plan scales input.doc f.gives f.given in
+    subst (λ (p : Part). IsMade p.neq) (sym is) (shifted_made (map (value_of base) f.gives.names) f.gives g.gives (length-map f.gives.names (value_of base)) made g.given)
 
 abbrev PartMade : Part → Type 0
 PartMade part = IsMade part.neq
 
-made_from : (scales : ScaleMap) (before : List Part) (inputs : List PlainInput) (parts : List Part) → All PartMade before → InTurn (IsPart scales) before inputs (Ok parts) → All PartMade parts
-made_from scales before [] parts made h = let same : parts ≡ before = cc in subst (All PartMade) (sym same) made
-made_from scales before (input ∷ inputs) parts made h =
-    let f = went_on (IsPart scales before input) (λ part. InTurn (IsPart scales) (before ++ part ∷ []) inputs) parts h in
-    made_from scales (before ++ f.gives ∷ []) inputs parts (All-push PartMade before f.gives made (part_made scales before input f.gives f.given)) f.onward
+made_from : (scales : ScaleMap) (base : List Row) (before : List Part) (inputs : List PlainInput) (parts : List Part) → All PartMade before → InTurn (IsPart scales base) before inputs (Ok parts) → All PartMade parts
+made_from scales base before [] parts made h = let same : parts ≡ before = cc in subst (All PartMade) (sym same) made
+made_from scales base before (input ∷ inputs) parts made h =
+    let f = went_on (IsPart scales base before input) (λ part. InTurn (IsPart scales base) (before ++ part ∷ []) inputs) parts h in
+    made_from scales base (before ++ f.gives ∷ []) inputs parts (All-push PartMade before f.gives made (part_made scales base before input f.gives f.given)) f.onward
 
 pub neqs_made : (parts : List Part) → All PartMade parts → All IsMade (neqs_of parts)
 neqs_made [] made = All-nil IsMade
 neqs_made (part ∷ parts) made = All-cons IsMade part.neq (neqs_of parts) (All-head PartMade part parts made) (neqs_made parts (All-tail PartMade part parts made))
 
-pub parts_made : (scales : ScaleMap) (inputs : List PlainInput) (parts : List Part) → AreParts scales inputs (Ok parts) → All IsMade (neqs_of parts)
-parts_made scales inputs parts h = neqs_made parts (made_from scales [] inputs parts (All-nil PartMade) h)
+pub parts_made : (scales : ScaleMap) (base : List Row) (inputs : List PlainInput) (parts : List Part) → AreParts scales base inputs (Ok parts) → All IsMade (neqs_of parts)
+parts_made scales base inputs parts h = neqs_made parts (made_from scales base [] inputs parts (All-nil PartMade) h)
 
 -- ---- parts of a sound stack
 at_place : {X : Type 0} (P : X → Type 0) (xs : List X) (k : ℕ) (x : X) → slice_get xs k ≡ Some x → All P xs → P x
@@ -76,50 +118,38 @@ some_at (x ∷ xs) zero lt = (x, refl)
 some_at (x ∷ xs) (suc k) lt = some_at xs k (omega arith)
 
 module _ (neq whole : PlainNeq) (made : IsMade neq) (sound : IsSound whole) (has : (id : PlainId) (parameter : Parameter) → HasParameter neq id parameter → HasParameter whole id parameter) where
-  values_long : length neq.apriori ≡ length neq.names
-  values_long = ap length made.is.apriori ∙ length-map neq.names _
-
-  units_long : length neq.units ≡ length neq.names
-  units_long = ap length made.is.units ∙ length-map neq.names _
-
-  scales_long : length neq.scales ≡ length neq.names
-  scales_long = ap length made.is.exponents ∙ length-map neq.names _
-
-  rights_long : length neq.right ≡ length neq.names
-  rights_long = ap length made.is.right ∙ length-map neq.names _
-
   parameter_at : (k : ℕ) → k < length neq.names → (id : PlainId) × (parameter : Parameter) × HasParameter neq id parameter × (slice_get neq.apriori k ≡ Some parameter.value) × (slice_get neq.scales k ≡ Some parameter.exponent)
   parameter_at k lt =
       let id = some_at neq.names k lt in
-      let value = some_at neq.apriori k (rw values_long lt) in
-      let unit = some_at neq.units k (rw units_long lt) in
-      let exponent = some_at neq.scales k (rw scales_long lt) in
+      let value = some_at neq.apriori k (rw made.values lt) in
+      let unit = some_at neq.units k (rw made.named_units lt) in
+      let exponent = some_at neq.scales k (rw made.exponents lt) in
       let parameter : Parameter = record { value = value.0; unit = unit.0; exponent = exponent.0 } in
       (id.0, parameter, record { place = k; name = id.1; value_is = value.1; unit_is = unit.1; exponent_is = exponent.1 }, value.1, exponent.1)
 
   modest_at : (k : ℕ) (d : Decimal) → k < length neq.apriori → IsAtMost (10 ^ 12) (get_or neq.apriori k d)
   modest_at k d lt =
-      let p = parameter_at k (rw values_long at lt) in
+      let p = parameter_at k (rw made.values at lt) in
       let there = has p.0 p.1 p.2 in
       let same : p.1.value ≡ get_or neq.apriori k d = same_Some p.1.value (get_or neq.apriori k d) (sym p.3 ∙ slice_get-get_or neq.apriori k d lt) in
       subst (IsAtMost (10 ^ 12)) same (at_place (IsAtMost (10 ^ 12)) whole.apriori there.place p.1.value there.value_is sound.modest)
 
   scaled_at : (k : ℕ) (d : ℤ) → k < length neq.scales → IsScale (get_or neq.scales k d)
   scaled_at k d lt =
-      let p = parameter_at k (rw scales_long at lt) in
+      let p = parameter_at k (rw made.exponents at lt) in
       let there = has p.0 p.1 p.2 in
       let same : p.1.exponent ≡ get_or neq.scales k d = same_Some p.1.exponent (get_or neq.scales k d) (sym p.4 ∙ slice_get-get_or neq.scales k d lt) in
       subst IsScale same (at_place IsScale whole.scales there.place p.1.exponent there.exponent_is sound.scaled)
 
   part_sound : IsSound neq
   part_sound = record {
-    names = made.is.names.1;
-    rows = made.is.rows;
-    entries = made.is.lower;
-    rights = rights_long;
-    values = values_long;
-    named_units = units_long;
-    exponents = scales_long;
+    names = made.names;
+    rows = made.rows;
+    entries = made.entries;
+    rights = made.rights;
+    values = made.values;
+    named_units = made.named_units;
+    exponents = made.exponents;
     modest = modest_at;
     scaled = scaled_at;
   }

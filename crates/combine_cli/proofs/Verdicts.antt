@@ -26,7 +26,7 @@ has_control_is_one (Combine names) files = control_is_one names files
 
 combines_is_one : (control : PlainControl) (files : List ℕ → Option File) → IsOne (Combines control files)
 combines_is_one control files =
-    then_is_one (ReadsInputs control.files files) (IsCombined control.scales) (inputs_are_one control.files files) (λ inputs read. combined_is_one control.scales inputs)
+    then_is_one (ReadsInputs control.files files) (IsCombined control) (inputs_are_one control.files files) (λ inputs read. combined_is_one control inputs)
 
 -- so the words and the files have one verdict
 pub one_verdict : (words : List (List ℕ)) (files : List ℕ → Option File) → IsOne (IsVerdict words files)
@@ -62,7 +62,7 @@ module _ (words : List (List ℕ)) (files : List ℕ → Option File) where
 
 -- ---- what is planned is the verdict
 texts_combine : (control : PlainControl) (files : List ℕ → Option File) (texts : Texts) → IsTextsOf control files texts → Combines control files (Ok texts)
-texts_combine control files texts are = then_gives (ReadsInputs control.files files) (IsCombined control.scales) are.inputs (Ok texts) are.reads are.combined
+texts_combine control files texts are = then_gives (ReadsInputs control.files files) (IsCombined control) are.inputs (Ok texts) are.reads are.combined
 
 pub planned_verdict : (words : List (List ℕ)) (files : List ℕ → Option File) (outputs : List NamedText) → IsPlanned words files outputs → IsVerdict words files (Ok outputs)
 planned_verdict words files outputs p =
@@ -101,4 +101,4 @@ module _ (files : List ℕ → Option File) (from to : List ℕ) (differ : from 
   pub no_file : IsVerdict (codes "solve" ∷ from ∷ to ∷ []) files (Err (NoFile from))
   no_file =
       by_texts (codes "solve" ∷ from ∷ to ∷ []) files (Solve (record { from = from; to = to })) (record { words_are = refl; differ = differ }) (alone_control from) refl (NoFile from)
-      (then_stops (ReadsInputs (alone_control from).files files) (IsCombined (alone_control from).scales) (NoFile from) no_inputs)
+      (then_stops (ReadsInputs (alone_control from).files files) (IsCombined (alone_control from)) (NoFile from) no_inputs)

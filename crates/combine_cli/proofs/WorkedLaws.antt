@@ -1,24 +1,35 @@
 -- The exact systems of worked documents.
-use Rattle.std.proofs.Common.{List, ◌≡◌, ◌∷◌, ◌*ℤ◌, ◌+ℤ◌, ℕ, ℤ, Bool, true, false, pos, [], Ok, refl, sym, subst, arith, cond, if◌then◌else◌}
+use Rattle.std.proofs.Common.{List, ◌≡◌, ◌∙◌, ◌∷◌, ◌<◌, ◌*◌, ◌*ℤ◌, ◌+ℤ◌, ℕ, zero, suc, ℤ, Bool, true, false, pos, [], Ok, codes, refl, sym, ap, subst, arith, cond, if◌then◌else◌}
+use Rattle.std.specs.Prelude.{Contains}
+use Rattle.std.specs.List.Sorted.{IsPermutation}
+use Rattle.std.proofs.Math.IntN.{◌-ℤ◌}
+use Rattle.std.proofs.Math.Nat.{mul-pos}
 use Rattle.std.proofs.lemmas.Int.{ints}
 use Rattle.std.proofs.lemmas.List.Elements.{All-head, All-tail}
+use Rattle.std.proofs.lemmas.List.Sorted.{length_permutation, Contains-permutation}
+use Rattle.whole_numbers.proofs.EqualFractions.{same_from_product}
+use Rattle.whole_numbers.proofs.Ring.{ring, *ℤ_right_comm}
 use Rattle.stated_order.specs.Lists.{AreEach}
 use Rattle.decimal_e.specs.Decimals.{Decimal, product}
-use Rattle.decimal_e.specs.Fractions.{Means}
+use Rattle.decimal_e.specs.Fractions.{Means, numerator, denominator}
 use Rattle.param_ids.specs.Plain.{PlainId}
 use Rattle.param_ids.specs.Order.{is_same_id}
 use Rattle.neq_stack.specs.Systems.{NamedSystem, IsSumOf}
+use Rattle.snx_rows.specs.declared.rows.Row.{Row}
 use Rattle.run_inputs.specs.Inputs.{PlainInput}
-use Rattle.recover_neq.specs.Blocks.{Blocks, blocks_in, zero_decimal, weighted_entry, weighted_right}
+use Rattle.recover_neq.specs.Blocks.{Blocks, blocks_in, value_of, zero_decimal, weighted_entry, weighted_right}
 use Rattle.recover_neq.specs.Exact.{IsExact}
-use Rattle.combine_cli.specs.Headline.{IsExactOf}
-use Rattle.combine_cli.specs.Worked.{one, quarter, half, whole, four_thousand, worked_name, worked_row, equation, worked_document, worked_system, worked_input}
+use Rattle.recover_neq.specs.Recovery.{AreNamesOf}
+use Rattle.apriori_shift.specs.Moves.{IsExactDifference, row_times}
+use Rattle.combine_cli.specs.Combination.{counted_rows}
+use Rattle.combine_cli.specs.Headline.{IsExactAt, IsExactOf}
+use Rattle.combine_cli.specs.Worked.{one, quarter, half, whole, one_and_three_tenths, four_thousand, worked_name, worked_row, equation, worked_document, worked_system, worked_file}
 
-abbrev pub blocks_at : Decimal → Decimal → Blocks
-blocks_at matrix vector = record { apriori = worked_row one ∷ []; vector = worked_row vector ∷ []; cells = record { row = 0; col = 0; value = matrix } ∷ [] }
+abbrev pub blocks_at : Decimal → Decimal → Decimal → Blocks
+blocks_at value matrix vector = record { apriori = worked_row value ∷ []; vector = worked_row vector ∷ []; cells = record { row = 0; col = 0; value = matrix } ∷ [] }
 
-same_blocks : (matrix vector : Decimal) (blocks : Blocks) → blocks_in (equation matrix vector) ≡ Ok blocks → blocks_at matrix vector ≡ blocks
-same_blocks matrix vector blocks e = cc
+same_blocks : (value matrix vector : Decimal) (blocks : Blocks) → blocks_in (equation value matrix vector) ≡ Ok blocks → blocks_at value matrix vector ≡ blocks
+same_blocks value matrix vector blocks e = cc
 
 -- ---- some exact system
 entry_means : (p q : Bool) → Means (product one (if p then (if q then four_thousand else zero_decimal) else zero_decimal)) (if p then (if q then pos 16000 else pos 0) else pos 0) 4
@@ -34,19 +45,19 @@ abbrev by_place : Decimal → Bool → Decimal
 by_place value test = cond test value zero_decimal
 
 entry_is : (n m : PlainId) (p q : Bool) → is_same_id worked_name n ≡ p → is_same_id worked_name m ≡ q
-    → weighted_entry (blocks_at four_thousand quarter) one n m ≡ product one (if p then (if q then four_thousand else zero_decimal) else zero_decimal)
+    → weighted_entry (blocks_at one four_thousand quarter) one n m ≡ product one (if p then (if q then four_thousand else zero_decimal) else zero_decimal)
 entry_is n m true true a b = rw (a, b) refl
 entry_is n m true false a b = rw (a, b) refl
 entry_is n m false true a b = rw (a, b) refl
 entry_is n m false false a b = rw (a, b) refl
 
-right_is : (n : PlainId) (p : Bool) → is_same_id worked_name n ≡ p → weighted_right (blocks_at four_thousand quarter) one n ≡ product one (if p then quarter else zero_decimal)
+right_is : (n : PlainId) (p : Bool) → is_same_id worked_name n ≡ p → weighted_right (blocks_at one four_thousand quarter) one n ≡ product one (if p then quarter else zero_decimal)
 right_is n true a = rw a refl
 right_is n false a = rw a refl
 
 pub some_exact : IsExact worked_document one worked_system
 some_exact = record {
-  blocks = blocks_at four_thousand quarter;
+  blocks = blocks_at one four_thousand quarter;
   has = refl;
   some = omega arith;
   matrix = λ n m. subst (λ d. Means d (worked_system.a n m) 4) (sym (entry_is n m (is_same_id worked_name n) (is_same_id worked_name m) refl refl)) (entry_means (is_same_id worked_name n) (is_same_id worked_name m));
@@ -54,9 +65,9 @@ some_exact = record {
 }
 
 -- ---- every exact system
-module _ (weight matrix vector : Decimal) (S : NamedSystem) (h : IsExact (equation matrix vector) weight S) where
-  same : h.blocks ≡ blocks_at matrix vector
-  same = sym (same_blocks matrix vector h.blocks h.has)
+module _ (weight value matrix vector : Decimal) (S : NamedSystem) (h : IsExact (equation value matrix vector) weight S) where
+  same : h.blocks ≡ blocks_at value matrix vector
+  same = sym (same_blocks value matrix vector h.blocks h.has)
 
   pub matrix_means : Means (product weight matrix) (S.a worked_name worked_name) S.q
   matrix_means = subst (λ blocks. Means (weighted_entry blocks weight worked_name worked_name) (S.a worked_name worked_name) S.q) same (h.matrix worked_name worked_name)
@@ -65,70 +76,176 @@ module _ (weight matrix vector : Decimal) (S : NamedSystem) (h : IsExact (equati
   vector_means = subst (λ blocks. Means (weighted_right blocks weight worked_name) (S.c worked_name) S.q) same (h.right worked_name)
 
 pub matrix_law : (S : NamedSystem) → IsExact worked_document one S → S.a worked_name worked_name ≡ pos 4000 *ℤ pos S.q
-matrix_law S h = let e : pos 4000 *ℤ pos S.q ≡ S.a worked_name worked_name *ℤ pos 1 = matrix_means one four_thousand quarter S h in omega (arith, ints)
+matrix_law S h = let e : pos 4000 *ℤ pos S.q ≡ S.a worked_name worked_name *ℤ pos 1 = matrix_means one one four_thousand quarter S h in omega (arith, ints)
 
 pub vector_law : (S : NamedSystem) → IsExact worked_document one S → S.c worked_name *ℤ pos 4 ≡ pos S.q
-vector_law S h = let e : pos 25 *ℤ pos S.q ≡ S.c worked_name *ℤ pos 100 = vector_means one four_thousand quarter S h in omega (arith, ints)
+vector_law S h = let e : pos 25 *ℤ pos S.q ≡ S.c worked_name *ℤ pos 100 = vector_means one one four_thousand quarter S h in omega (arith, ints)
 
 pub weighted_matrix_law : (S : NamedSystem) → IsExact worked_document half S → S.a worked_name worked_name ≡ pos 2000 *ℤ pos S.q
-weighted_matrix_law S h = let e : pos 2000 *ℤ pos S.q ≡ S.a worked_name worked_name *ℤ pos 1 = matrix_means half four_thousand quarter S h in omega (arith, ints)
+weighted_matrix_law S h = let e : pos 2000 *ℤ pos S.q ≡ S.a worked_name worked_name *ℤ pos 1 = matrix_means half one four_thousand quarter S h in omega (arith, ints)
 
 pub weighted_vector_law : (S : NamedSystem) → IsExact worked_document half S → S.c worked_name *ℤ pos 8 ≡ pos S.q
-weighted_vector_law S h = let e : pos 125 *ℤ pos S.q ≡ S.c worked_name *ℤ pos 1000 = vector_means half four_thousand quarter S h in omega (arith, ints)
+weighted_vector_law S h = let e : pos 125 *ℤ pos S.q ≡ S.c worked_name *ℤ pos 1000 = vector_means half one four_thousand quarter S h in omega (arith, ints)
+
+-- ---- the system of a file at the common values
+counted : (x : ℤ) (n q : ℕ) → Means (product one (whole n)) x q → x ≡ pos n *ℤ pos q
+counted x n q h = let e : ((pos 1 *ℤ pos n) *ℤ pos 1) *ℤ pos q ≡ x *ℤ pos 1 = h in omega (arith, ints)
+
+-- the only order of one name
+alone_permuted : (id : PlainId) (names : List PlainId) → IsPermutation (id ∷ []) names → names ≡ id ∷ []
+alone_permuted id [] p = absurd (omega (arith, length_permutation (id ∷ []) [] p))
+alone_permuted id (first ∷ []) p = at_first (Contains-permutation (id ∷ []) (first ∷ []) id p (0, omega arith, refl))
+  where
+    at_first : Contains (first ∷ []) id → first ∷ [] ≡ id ∷ []
+    at_first (zero, lt, e) = ap (λ (name : PlainId). name ∷ []) e
+    at_first (suc k, lt, e) = absurd (omega arith)
+alone_permuted id (first ∷ second ∷ names) p = absurd (omega (arith, length_permutation (id ∷ []) (first ∷ second ∷ names) p))
+
+parted : (r m x q s p n : ℤ) → (((r *ℤ q) *ℤ s -ℤ (m *ℤ q) *ℤ x) *ℤ p) *ℤ n ≡ ((r *ℤ n) *ℤ p) *ℤ (q *ℤ s) -ℤ ((m *ℤ q) *ℤ p) *ℤ (x *ℤ n)
+parted r m x q s p n = simp ring
+
+joined : (r m d q s p n : ℤ) → ((r *ℤ n) *ℤ p) *ℤ (q *ℤ s) -ℤ ((m *ℤ q) *ℤ p) *ℤ (d *ℤ s) ≡ ((r *ℤ n -ℤ m *ℤ d) *ℤ p) *ℤ (q *ℤ s)
+joined r m d q s p n = simp ring
+
+-- t is c - a x over n times the denominator, where x / s is d / n
+less_product : (r m d x t c a : ℤ) (q s p n : ℕ) → 0 < q → 0 < s → d *ℤ pos s ≡ x *ℤ pos n → c ≡ r *ℤ pos q → a ≡ m *ℤ pos q
+    → t *ℤ pos (q * s) ≡ (c *ℤ pos s -ℤ (a *ℤ x +ℤ pos 0)) *ℤ pos p → t *ℤ pos n ≡ (r *ℤ pos n -ℤ m *ℤ d) *ℤ pos p
+less_product r m d x t c a q s p n some too difference right entry h =
+    let plain : c *ℤ pos s -ℤ (a *ℤ x +ℤ pos 0) ≡ c *ℤ pos s -ℤ a *ℤ x = omega (arith, ints) in
+    let taken : c *ℤ pos s -ℤ a *ℤ x ≡ (r *ℤ pos q) *ℤ pos s -ℤ (m *ℤ pos q) *ℤ x = ap (λ z. z *ℤ pos s -ℤ a *ℤ x) right ∙ ap (λ z. (r *ℤ pos q) *ℤ pos s -ℤ z *ℤ x) entry in
+    same_from_product (t *ℤ pos n) ((r *ℤ pos n -ℤ m *ℤ d) *ℤ pos p) (q * s) (mul-pos some too)
+    (*ℤ_right_comm t (pos n) (pos (q * s)) ∙ ap (λ z. z *ℤ pos n) h ∙ ap (λ z. (z *ℤ pos p) *ℤ pos n) (plain ∙ taken) ∙ parted r m x (pos q) (pos s) (pos p) (pos n)
+    ∙ ap (λ z. ((r *ℤ pos n) *ℤ pos p) *ℤ (pos q *ℤ pos s) -ℤ ((m *ℤ pos q) *ℤ pos p) *ℤ z) (sym difference) ∙ joined r m d (pos q) (pos s) (pos p) (pos n))
+
+-- the difference of two values, over the product of their denominators
+abbrev above : Decimal → Decimal → ℤ
+above to from = numerator to *ℤ pos (denominator from) -ℤ numerator from *ℤ pos (denominator to)
+
+abbrev below : Decimal → Decimal → ℕ
+below to from = denominator to * denominator from
+
+module _ (name : List ℕ) (value to : Decimal) (m r : ℕ) (base : List Row) (T : NamedSystem) (base_is : value_of base worked_name ≡ to) (h : IsExactAt base (worked_file name value m r) T) where
+  blocks_are : h.blocks ≡ blocks_at value (whole m) (whole r)
+  blocks_are = sym (same_blocks value (whole m) (whole r) h.blocks h.has)
+
+  names_are : h.names ≡ worked_name ∷ []
+  names_are = alone_permuted worked_name h.names (subst (λ (blocks : Blocks). AreNamesOf blocks h.names) blocks_are h.named).0
+
+  entry : h.S.a worked_name worked_name ≡ pos m *ℤ pos h.S.q
+  entry = counted (h.S.a worked_name worked_name) m h.S.q (matrix_means one value (whole m) (whole r) h.S h.exact)
+
+  right : h.S.c worked_name ≡ pos r *ℤ pos h.S.q
+  right = counted (h.S.c worked_name) r h.S.q (vector_means one value (whole m) (whole r) h.S h.exact)
+
+  named_first : Contains h.names worked_name
+  named_first = subst (λ (names : List PlainId). Contains names worked_name) (sym names_are) (0, omega arith, refl)
+
+  difference : above to value *ℤ pos h.moves.s ≡ h.moves.x worked_name *ℤ pos (below to value)
+  difference =
+      subst (λ (d : Decimal). IsExactDifference d value (h.moves.x worked_name) h.moves.s) base_is
+      (subst (λ (blocks : Blocks). IsExactDifference (value_of base worked_name) (value_of blocks.apriori worked_name) (h.moves.x worked_name) h.moves.s) blocks_are (h.moves.differences worked_name named_first))
+
+  moved_right : T.c worked_name *ℤ pos (h.S.q * h.moves.s) ≡ (h.S.c worked_name *ℤ pos h.moves.s -ℤ (h.S.a worked_name worked_name *ℤ h.moves.x worked_name +ℤ pos 0)) *ℤ pos T.q
+  moved_right =
+      subst (λ (names : List PlainId). T.c worked_name *ℤ pos (h.S.q * h.moves.s) ≡ (h.S.c worked_name *ℤ pos h.moves.s -ℤ row_times names h.S.a worked_name h.moves.x) *ℤ pos T.q) names_are (h.moves.right worked_name)
+
+  file_entry : T.a worked_name worked_name ≡ pos m *ℤ pos T.q
+  file_entry =
+      same_from_product (T.a worked_name worked_name) (pos m *ℤ pos T.q) h.S.q h.moves.plain_some
+      (h.moves.matrix worked_name worked_name ∙ ap (λ z. z *ℤ pos T.q) entry ∙ *ℤ_right_comm (pos m) (pos h.S.q) (pos T.q))
+
+  file_right : T.c worked_name *ℤ pos (below to value) ≡ (pos r *ℤ pos (below to value) -ℤ pos m *ℤ above to value) *ℤ pos T.q
+  file_right =
+      less_product (pos r) (pos m) (above to value) (h.moves.x worked_name) (T.c worked_name) (h.S.c worked_name) (h.S.a worked_name worked_name) h.S.q h.moves.s T.q (below to value)
+      h.moves.plain_some h.moves.s_some difference right entry moved_right
 
 -- ---- two files
-four : (x : ℤ) (q : ℕ) → Means (product one (whole 4)) x q → x ≡ pos 4 *ℤ pos q
-four x q h = let e : pos 4 *ℤ pos q ≡ x *ℤ pos 1 = h in omega (arith, ints)
-
-three : (x : ℤ) (q : ℕ) → Means (product one (whole 3)) x q → x ≡ pos 3 *ℤ pos q
-three x q h = let e : pos 3 *ℤ pos q ≡ x *ℤ pos 1 = h in omega (arith, ints)
-
-two : (x : ℤ) (q : ℕ) → Means (product one (whole 2)) x q → x ≡ pos 2 *ℤ pos q
-two x q h = let e : pos 2 *ℤ pos q ≡ x *ℤ pos 1 = h in omega (arith, ints)
-
-single : (x : ℤ) (q : ℕ) → Means (product one (whole 1)) x q → x ≡ pos 1 *ℤ pos q
-single x q h = let e : pos 1 *ℤ pos q ≡ x *ℤ pos 1 = h in omega (arith, ints)
-
 -- a fraction over an equal denominator
-over_same : (x : ℤ) (n q r : ℕ) → q ≡ r → x ≡ pos n *ℤ pos q → x ≡ pos n *ℤ pos r
-over_same x n q r e h = subst (λ d. x ≡ pos n *ℤ pos d) e h
+over_same : (x z : ℤ) (q r : ℕ) → q ≡ r → x ≡ z *ℤ pos q → x ≡ z *ℤ pos r
+over_same x z q r e h = subst (λ d. x ≡ z *ℤ pos d) e h
 
-abbrev EachExact : List PlainInput → List NamedSystem → Type 0
-EachExact = AreEach (λ (input : PlainInput) system. IsExact input.doc input.plan.weight system)
+-- the systems of two files, whose sum is S at the worked name
+record AreTwo (base : List Row) (a b : PlainInput) (S : NamedSystem) : Type 0 where
+  s : NamedSystem
+  t : NamedSystem
+  first : IsExactAt base a s
+  second : IsExactAt base b t
+  first_q : s.q ≡ S.q
+  second_q : t.q ≡ S.q
+  matrix : S.a worked_name worked_name ≡ s.a worked_name worked_name +ℤ (t.a worked_name worked_name +ℤ pos 0)
+  right : S.c worked_name ≡ s.c worked_name +ℤ (t.c worked_name +ℤ pos 0)
 
-module _ (S : NamedSystem) where
-  added_entries : (s t : NamedSystem) → IsExact (worked_input 4 2).doc one s → IsExact (worked_input 3 1).doc one t → IsSumOf (s ∷ t ∷ []) S → S.a worked_name worked_name ≡ pos 7 *ℤ pos S.q
-  added_entries s t a b sum =
-      let q = All-head (λ (part : NamedSystem). part.q ≡ S.q) s (t ∷ []) sum.denominators in
-      let r = All-head (λ (part : NamedSystem). part.q ≡ S.q) t [] (All-tail (λ (part : NamedSystem). part.q ≡ S.q) s (t ∷ []) sum.denominators) in
-      let first = over_same (s.a worked_name worked_name) 4 s.q S.q q (four _ _ (matrix_means one (whole 4) (whole 2) s a)) in
-      let second = over_same (t.a worked_name worked_name) 3 t.q S.q r (three _ _ (matrix_means one (whole 3) (whole 1) t b)) in
-      let whole : S.a worked_name worked_name ≡ s.a worked_name worked_name +ℤ (t.a worked_name worked_name +ℤ pos 0) = sum.matrix worked_name worked_name in
-      omega (arith, ints)
+two_by : (base : List Row) (a b : PlainInput) (S : NamedSystem) (systems : List NamedSystem) → AreEach (IsExactAt base) (a ∷ b ∷ []) systems → IsSumOf systems S → AreTwo base a b S
+two_by base a b S [] each sum = absurd each
+two_by base a b S (s ∷ []) each sum = absurd each.1
+two_by base a b S (s ∷ t ∷ []) each sum = record {
+  s = s;
+  t = t;
+  first = each.0;
+  second = each.1.0;
+  first_q = All-head (λ (part : NamedSystem). part.q ≡ S.q) s (t ∷ []) sum.denominators;
+  second_q = All-head (λ (part : NamedSystem). part.q ≡ S.q) t [] (All-tail (λ (part : NamedSystem). part.q ≡ S.q) s (t ∷ []) sum.denominators);
+  matrix = sum.matrix worked_name worked_name;
+  right = sum.right worked_name;
+}
+two_by base a b S (s ∷ t ∷ u ∷ more) each sum = absurd each.1.1
 
-  added_rights : (s t : NamedSystem) → IsExact (worked_input 4 2).doc one s → IsExact (worked_input 3 1).doc one t → IsSumOf (s ∷ t ∷ []) S → S.c worked_name ≡ pos 3 *ℤ pos S.q
-  added_rights s t a b sum =
-      let q = All-head (λ (part : NamedSystem). part.q ≡ S.q) s (t ∷ []) sum.denominators in
-      let r = All-head (λ (part : NamedSystem). part.q ≡ S.q) t [] (All-tail (λ (part : NamedSystem). part.q ≡ S.q) s (t ∷ []) sum.denominators) in
-      let first = over_same (s.c worked_name) 2 s.q S.q q (two _ _ (vector_means one (whole 4) (whole 2) s a)) in
-      let second = over_same (t.c worked_name) 1 t.q S.q r (single _ _ (vector_means one (whole 3) (whole 1) t b)) in
-      let whole : S.c worked_name ≡ s.c worked_name +ℤ (t.c worked_name +ℤ pos 0) = sum.right worked_name in
-      omega (arith, ints)
+two_of : (reference : List ℕ) (a b : PlainInput) (S : NamedSystem) → IsExactOf reference (a ∷ b ∷ []) S → AreTwo (counted_rows reference (a ∷ b ∷ [])) a b S
+two_of reference a b S h =
+    subst (λ (base : List Row). AreTwo base a b S) h.common.0 (two_by h.base a b S h.systems h.each h.sum)
 
-  entries_by : (systems : List NamedSystem) → EachExact (worked_input 4 2 ∷ worked_input 3 1 ∷ []) systems → IsSumOf systems S → S.a worked_name worked_name ≡ pos 7 *ℤ pos S.q
-  entries_by [] each sum = absurd each
-  entries_by (s ∷ []) each sum = absurd each.1
-  entries_by (s ∷ t ∷ []) each sum = added_entries s t each.0 each.1.0 sum
-  entries_by (s ∷ t ∷ u ∷ more) each sum = absurd each.1.1
+-- ---- two files with one value
+abbrev first_file : PlainInput
+first_file = worked_file (codes "a") one 4 2
 
-  rights_by : (systems : List NamedSystem) → EachExact (worked_input 4 2 ∷ worked_input 3 1 ∷ []) systems → IsSumOf systems S → S.c worked_name ≡ pos 3 *ℤ pos S.q
-  rights_by [] each sum = absurd each
-  rights_by (s ∷ []) each sum = absurd each.1
-  rights_by (s ∷ t ∷ []) each sum = added_rights s t each.0 each.1.0 sum
-  rights_by (s ∷ t ∷ u ∷ more) each sum = absurd each.1.1
+abbrev second_file : PlainInput
+second_file = worked_file (codes "b") one 3 1
 
-pub entries_added : (S : NamedSystem) → IsExactOf (worked_input 4 2 ∷ worked_input 3 1 ∷ []) S → S.a worked_name worked_name ≡ pos 7 *ℤ pos S.q
-entries_added S h = entries_by S h.systems h.each h.sum
+pub entries_added : (S : NamedSystem) → IsExactOf [] (first_file ∷ second_file ∷ []) S → S.a worked_name worked_name ≡ pos 7 *ℤ pos S.q
+entries_added S h =
+    let h = two_of [] first_file second_file S h in
+    let base = counted_rows [] (first_file ∷ second_file ∷ []) in
+    let first = over_same (h.s.a worked_name worked_name) (pos 4) h.s.q S.q h.first_q (file_entry (codes "a") one one 4 2 base h.s refl h.first) in
+    let second = over_same (h.t.a worked_name worked_name) (pos 3) h.t.q S.q h.second_q (file_entry (codes "b") one one 3 1 base h.t refl h.second) in
+    let whole = h.matrix in
+    omega (arith, ints)
 
-pub rights_added : (S : NamedSystem) → IsExactOf (worked_input 4 2 ∷ worked_input 3 1 ∷ []) S → S.c worked_name ≡ pos 3 *ℤ pos S.q
-rights_added S h = rights_by S h.systems h.each h.sum
+pub rights_added : (S : NamedSystem) → IsExactOf [] (first_file ∷ second_file ∷ []) S → S.c worked_name ≡ pos 3 *ℤ pos S.q
+rights_added S h =
+    let h = two_of [] first_file second_file S h in
+    let base = counted_rows [] (first_file ∷ second_file ∷ []) in
+    let first = over_same (h.s.c worked_name *ℤ pos 1) (pos 2) h.s.q S.q h.first_q (file_right (codes "a") one one 4 2 base h.s refl h.first) in
+    let second = over_same (h.t.c worked_name *ℤ pos 1) (pos 1) h.t.q S.q h.second_q (file_right (codes "b") one one 3 1 base h.t refl h.second) in
+    let whole = h.right in
+    omega (arith, ints)
+
+-- ---- two files with two values
+abbrev moved_file : PlainInput
+moved_file = worked_file (codes "b") one_and_three_tenths 4 2
+
+pub entries_moved : (S : NamedSystem) → IsExactOf [] (first_file ∷ moved_file ∷ []) S → S.a worked_name worked_name ≡ pos 8 *ℤ pos S.q
+entries_moved S h =
+    let h = two_of [] first_file moved_file S h in
+    let base = counted_rows [] (first_file ∷ moved_file ∷ []) in
+    let first = over_same (h.s.a worked_name worked_name) (pos 4) h.s.q S.q h.first_q (file_entry (codes "a") one one 4 2 base h.s refl h.first) in
+    let second = over_same (h.t.a worked_name worked_name) (pos 4) h.t.q S.q h.second_q (file_entry (codes "b") one_and_three_tenths one 4 2 base h.t refl h.second) in
+    let whole = h.matrix in
+    omega (arith, ints)
+
+pub rights_moved : (S : NamedSystem) → IsExactOf [] (first_file ∷ moved_file ∷ []) S → S.c worked_name *ℤ pos 5 ≡ pos 26 *ℤ pos S.q
+rights_moved S h =
+    let h = two_of [] first_file moved_file S h in
+    let base = counted_rows [] (first_file ∷ moved_file ∷ []) in
+    let first = over_same (h.s.c worked_name *ℤ pos 1) (pos 2) h.s.q S.q h.first_q (file_right (codes "a") one one 4 2 base h.s refl h.first) in
+    let second = over_same (h.t.c worked_name *ℤ pos 10) (pos 32) h.t.q S.q h.second_q (file_right (codes "b") one_and_three_tenths one 4 2 base h.t refl h.second) in
+    let whole = h.right in
+    omega (arith, ints)
+
+pub rights_referred : (S : NamedSystem) → IsExactOf (codes "b") (first_file ∷ moved_file ∷ []) S → S.c worked_name *ℤ pos 5 ≡ pos 14 *ℤ pos S.q
+rights_referred S h =
+    let h = two_of (codes "b") first_file moved_file S h in
+    let base = counted_rows (codes "b") (first_file ∷ moved_file ∷ []) in
+    let first = over_same (h.s.c worked_name *ℤ pos 10) (pos 8) h.s.q S.q h.first_q (file_right (codes "a") one one_and_three_tenths 4 2 base h.s refl h.first) in
+    let second = over_same (h.t.c worked_name *ℤ pos 100) (pos 200) h.t.q S.q h.second_q (file_right (codes "b") one_and_three_tenths one_and_three_tenths 4 2 base h.t refl h.second) in
+    let whole = h.right in
+    omega (arith, ints)

@@ -1,5 +1,5 @@
 // What the definitions say at worked values. Each law is a function that does nothing.
-ghost use Rattle.std.specs.Prelude.{◌≡◌, ◌≢◌, ◌<◌, ◌∷◌, ◌*ℤ◌, ℕ, ℤ, pos, [], true, List, Option, Some, None, Ok, Err, codes};
+ghost use Rattle.std.specs.Prelude.{◌≡◌, ◌≢◌, ◌<◌, ◌∷◌, ◌*ℤ◌, ℕ, ℤ, pos, [], List, Option, Some, None, Ok, Err, codes};
 ghost use Rattle.decimal_e.specs.Decimals.{Decimal};
 ghost use Rattle.desk_io.specs.Content.{File, Content, IsFront};
 ghost use Rattle.desk_io.specs.Outputs.{NamedText, HoldsWhole};
