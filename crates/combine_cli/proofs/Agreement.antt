@@ -25,11 +25,9 @@ use Rattle.combine_cli.specs.Combination.{apriori_rows, is_reference, counted_ro
 use Rattle.combine_cli.specs.Parts.{neqs_of, IsPartOf}
 use Rattle.combine_cli.proofs.EachLaws.{went_on}
 use Rattle.combine_cli.proofs.Equal.{equal_unit}
+use Rattle.combine_cli.proofs.FileRows.{later, found_row, blocks_apriori, Keeps, shift_keeps}
 
 -- ---- members
-later : {X : Type 0} (x : X) (xs : List X) (y : X) → Contains xs y → Contains (x ∷ xs) y
-later x xs y (k, lt, e) = (suc k, omega arith, e)
-
 in_flat : {X A : Type 0} (f : X → List A) (xs : List X) (x : X) (a : A) → Contains xs x → Contains (f x) a → Contains (flat_map f xs) a
 in_flat f [] x a (k, lt, e) there = absurd (omega arith)
 in_flat f (y ∷ xs) x a (zero, lt, e) there =
@@ -44,39 +42,7 @@ counted_row reference inputs input row there here =
     in_flat (λ (input : PlainInput). apriori_rows input.doc.apriori) (filter (is_reference reference) inputs ++ inputs) input row
     (Contains-append_right (filter (is_reference reference) inputs) inputs input there) here
 
--- the row of a name is one of the rows, and has the name
-found_row : (rows : List Row) (id : PlainId) (row : Row) → row_of rows id ≡ Some row → Contains rows row × (row.id ≡ id)
-found_row [] id row found = absurd (cc)
-found_row (first ∷ rows) id row found = by_test (is_row_of id first) refl found (found_row rows id row)
-  where
-    by_test : (is : Bool) → is_row_of id first ≡ is → cond is (Some first) (find (is_row_of id) rows) ≡ Some row → (row_of rows id ≡ Some row → Contains rows row × (row.id ≡ id))
-        → Contains (first ∷ rows) row × (row.id ≡ id)
-    by_test true e is rest = let same : first ≡ row = cc in ((0, omega arith, same), ap (λ (r : Row). r.id) (sym same) ∙ (same_id first.id id).0 e)
-    by_test false e is rest = let there = rest is in (later first rows row there.0, there.1)
-
--- ---- what a shift keeps
-pub record IsAtValues (values : List Decimal) (neq after : PlainNeq) : Type 0 where
-  pub names : after.names ≡ neq.names
-  pub apriori : after.apriori ≡ values
-  pub units : after.units ≡ neq.units
-  pub scales : after.scales ≡ neq.scales
-
-pub shift_keeps : (values : List Decimal) (neq after : PlainNeq) → IsShift values neq (Ok after) → IsAtValues values neq after
-shift_keeps values neq after (inl (same, is)) =
-    let e : after ≡ neq = cc in
-    record { names = ap (λ (n : PlainNeq). n.names) e; apriori = ap (λ (n : PlainNeq). n.apriori) e ∙ sym same; units = ap (λ (n : PlainNeq). n.units) e; scales = ap (λ (n : PlainNeq). n.scales) e }
-shift_keeps values neq after (inr (apart, differ)) =
-    let f = went_on _ _ after differ.2 in
-    let e = f.onward.1 in
-    record { names = ap (λ (n : PlainNeq). n.names) e; apriori = ap (λ (n : PlainNeq). n.apriori) e; units = ap (λ (n : PlainNeq). n.units) e; scales = ap (λ (n : PlainNeq). n.scales) e }
-
 -- ---- the parameters of a part
-blocks_apriori : (apriori vector : Option (List Row)) (matrix : Option PlainMatrix) (blocks : Blocks) → Ok blocks ≡ blocks_of apriori vector matrix → blocks.apriori ≡ apriori_rows apriori
-blocks_apriori None vector matrix blocks e = absurd (cc)
-blocks_apriori (Some rows) None matrix blocks e = absurd (cc)
-blocks_apriori (Some rows) (Some more) None blocks e = absurd (cc)
-blocks_apriori (Some rows) (Some more) (Some matrix) blocks e = let same : blocks ≡ record { apriori = rows; vector = more; cells = matrix.cells } = cc in ap (λ (b : Blocks). b.apriori) same
-
 -- what a list of values by name has at a place
 pub value_there : {X : Type 0} (f : PlainId → X) (names : List PlainId) (xs : List X) (k : ℕ) (id : PlainId) (x : X) → xs ≡ map f names → slice_get names k ≡ Some id → slice_get xs k ≡ Some x → x ≡ f id
 value_there f names xs k id x are name is = same_Some x (f id) (sym is ∙ ap (λ l. slice_get l k) are ∙ slice_get-map f names k ∙ ap (option_map f) name)
@@ -103,7 +69,7 @@ unit_of_parameter scales blocks id parameter is =
     record { row = is.row; there = found.0; name = found.1; is = is.unit_is ∙ ap (λ (o : Option Row). map_or o (codes "    ") (λ (r : Row). r.unit)) is.known }
 
 module _ (scales : ScaleMap) (base : List Row) (input : PlainInput) (part : Part) (is : IsPartOf scales base input part) where
-  kept : IsAtValues (map (value_of base) is.recovered.names) is.recovered part.neq
+  kept : Keeps (map (value_of base) is.recovered.names) is.recovered part.neq
   kept = shift_keeps (map (value_of base) is.recovered.names) is.recovered part.neq is.shifts
 
   -- what a part has of a parameter at the common values, its recovered normal equations have at the file's own
@@ -135,7 +101,7 @@ module _ (scales : ScaleMap) (base : List Row) (input : PlainInput) (part : Part
   part_parameter : (id : PlainId) (p : Parameter) → HasParameter part.neq id p → StandsAt scales base (apriori_rows input.doc.apriori) id p
   part_parameter id p has =
       let unit = part_unit id p has in
-      let are : part.neq.apriori ≡ map (value_of base) part.neq.names = kept.apriori ∙ ap (map (value_of base)) (sym kept.names) in
+      let are : part.neq.apriori ≡ map (value_of base) part.neq.names = kept.values_are ∙ ap (map (value_of base)) (sym kept.names) in
       record {
         row = unit.row;
         there = unit.there;

@@ -117,14 +117,3 @@ module _ {X : Type 0} (view : X → Group) (parts : List Part) (list : List X) (
 pub parts_stack : (parts : List Part) (groups : List Group) (stacks : List PlainNeq) (r : Result PlainNeq Refusal) → AreGroups (map (λ (part : Part). part.plan) parts) groups → AreGroupStacks parts groups (Ok stacks)
     → IsWholeStack stacks r → StacksParts parts r
 parts_stack parts groups stacks r are given h = (groups, are, then_gives (AreGroupStacks parts groups) IsWholeStack stacks r given h)
-
--- ---- what the calls ask for
-room : (n k : ℕ) → n ≤ 64 → k < 10 ^ 38 → 64 * k < 10 ^ 38 → n * k < 10 ^ 38
-room n k few one all = let le : n * k ≤ 64 * k = mul-le-mul_right k few in omega (arith, le)
-
-pub group_fits : (parts : List Part) (group : Group) (count : ℕ) → All (AreAtMost (2 * 10 ^ 34)) (neqs_of parts) → count ≤ 64
-    → (most : ℕ) × All (AreAtMost most) (members parts group) × (count * most < 10 ^ 38)
-group_fits parts group count modest few = (2 * 10 ^ 34, members_all parts group (AreAtMost (2 * 10 ^ 34)) modest, room count (2 * 10 ^ 34) few (lit< tt) (lit< tt))
-
-pub stacks_fit : (stacks : List PlainNeq) (count : ℕ) → All (AreAtMost (64 * (2 * 10 ^ 34))) stacks → count ≤ 64 → (most : ℕ) × All (AreAtMost most) stacks × (count * most < 10 ^ 38)
-stacks_fit stacks count modest few = (64 * (2 * 10 ^ 34), modest, room count (64 * (2 * 10 ^ 34)) few (lit< tt) (lit< tt))

@@ -7,6 +7,7 @@ pub mod Decisions
 pub mod EachLaws
 pub mod Equal
 pub mod ExactSystems
+pub mod FileRows
 pub mod GroupLaws
 pub mod GroupSorts
 pub mod GroupStacks

@@ -38,6 +38,7 @@ use Rattle.combine_cli.specs.Combination.{apriori_rows, Recovers, Shifts, Part, 
 use Rattle.combine_cli.specs.Headline.{IsExactAt}
 use Rattle.combine_cli.specs.Parts.{Covers, IsRecoveredOf, IsPartOf}
 use Rattle.combine_cli.proofs.EachLaws.{went_on}
+use Rattle.combine_cli.proofs.FileRows.{found_row, blocks_apriori, shift_keeps}
 
 -- ---- common values
 -- the values of names in a base are those of the first rows
@@ -54,28 +55,7 @@ at_most_weaker most more neq le h = record { entries = λ one other. let s = h.e
 pub range_told : (P : Place → Type 0) (e : ShiftError) (row col : ℕ) → e ≡ Range row col → IfRange P e → P (record { row = row; col = col })
 range_told P e row col is h = subst (IfRange P) is h
 
--- ---- what a shift keeps
-pub record Keeps (values : List Decimal) (neq after : PlainNeq) : Type 0 where
-  pub names : after.names ≡ neq.names
-  pub units : after.units ≡ neq.units
-  pub scales : after.scales ≡ neq.scales
-  pub values_are : after.apriori ≡ values
-
-pub shift_keeps : (values : List Decimal) (neq after : PlainNeq) → IsShift values neq (Ok after) → Keeps values neq after
-shift_keeps values neq after (inl h) =
-    let same : after ≡ neq = let e = h.1 in cc in
-    record { names = ap (λ (n : PlainNeq). n.names) same; units = ap (λ (n : PlainNeq). n.units) same; scales = ap (λ (n : PlainNeq). n.scales) same; values_are = ap (λ (n : PlainNeq). n.apriori) same ∙ sym h.0 }
-shift_keeps values neq after (inr h) =
-    let moved = (went_on _ _ after h.1.2).onward.1 in
-    record { names = ap (λ (n : PlainNeq). n.names) moved; units = ap (λ (n : PlainNeq). n.units) moved; scales = ap (λ (n : PlainNeq). n.scales) moved; values_are = ap (λ (n : PlainNeq). n.apriori) moved }
-
 -- ---- the blocks of a file
-blocks_apriori : (apriori vector : Option (List Row)) (matrix : Option PlainMatrix) (blocks : Blocks) → Ok blocks ≡ blocks_of apriori vector matrix → blocks.apriori ≡ apriori_rows apriori
-blocks_apriori None vector matrix blocks e = absurd (cc)
-blocks_apriori (Some rows) None matrix blocks e = absurd (cc)
-blocks_apriori (Some rows) (Some more) None blocks e = absurd (cc)
-blocks_apriori (Some rows) (Some more) (Some matrix) blocks e = let same : blocks ≡ record { apriori = rows; vector = more; cells = matrix.cells } = cc in ap (λ (b : Blocks). b.apriori) same
-
 same_blocks : (doc : PlainDoc) (one other : Blocks) → Ok one ≡ blocks_in doc → blocks_in doc ≡ Ok other → one ≡ other
 same_blocks doc one other a b = cc
 
@@ -86,16 +66,6 @@ names_alone blocks ids more a b =
       λ there. Contains-permutation (ids_in blocks.vector) more id b.0 (Contains-permutation ids (ids_in blocks.vector) id (IsPermutation-sym (ids_in blocks.vector) ids a.0) there),
       λ there. Contains-permutation (ids_in blocks.vector) ids id a.0 (Contains-permutation more (ids_in blocks.vector) id (IsPermutation-sym (ids_in blocks.vector) more b.0) there),
     ))
-
--- the row of a name is one of the rows, and has the name
-found_row : (rows : List Row) (id : PlainId) (row : Row) → row_of rows id ≡ Some row → Contains rows row × (row.id ≡ id)
-found_row [] id row found = absurd (cc)
-found_row (first ∷ rows) id row found = by_test (is_row_of id first) refl found (found_row rows id row)
-  where
-    by_test : (is : Bool) → is_row_of id first ≡ is → cond is (Some first) (find (is_row_of id) rows) ≡ Some row → (row_of rows id ≡ Some row → Contains rows row × (row.id ≡ id))
-        → Contains (first ∷ rows) row × (row.id ≡ id)
-    by_test true e is rest = let same : first ≡ row = cc in ((0, omega arith, same), ap (λ (r : Row). r.id) (sym same) ∙ (same_id first.id id).0 e)
-    by_test false e is rest = let there = rest is in ((suc there.0.0, omega (arith, there.0.1), there.0.2), there.1)
 
 -- the blocks of recovered normal equations
 record RecoveredFrom (doc : PlainDoc) (weight : Decimal) (scales : ScaleMap) (neq : PlainNeq) : Type 0 where
