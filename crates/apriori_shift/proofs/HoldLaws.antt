@@ -1,4 +1,5 @@
 -- Where a system lies in normal equations, it lies, taken to other values, in the normal equations at these.
+use Rattle.stated_order.proofs.StepLaws.{ok_same}
 use Rattle.std.proofs.Common.{◌≡◌, ◌<◌, ◌*◌, ◌∙◌, inl, inr, ℕ, ℤ, pos, ◌*ℤ◌, List, Option, Some, Ok, Result, map, slice_get, refl, sym, ap, subst, arith}
 use Rattle.std.specs.Prelude.{slice_index_or, unwrap_or, Contains}
 use Rattle.std.specs.Option.{option_map}
@@ -184,9 +185,6 @@ module _ (exponent : PlainId → ℤ) (old new : PlainId → Decimal) (neq : Pla
   -- at the values that they have
   kept : map new neq.names ≡ neq.apriori → LiesInNeq exponent neq T
   kept same = record { some = moves.some; entries = entry_lies; rights = λ id. right_stays id (row_unmoved same id) }
-
-ok_same : (one other : PlainNeq) → (let r : Result PlainNeq Place = Ok one in r ≡ Ok other) → one ≡ other
-ok_same one other e = cc
 
 pub shift_holds : ShiftHolds
 shift_holds exponent old new neq after S T sound scaled valued lies shift moves =

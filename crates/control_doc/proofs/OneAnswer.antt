@@ -1,7 +1,7 @@
 -- A control file says one control at most, or has one first fault.
 use Rattle.std.proofs.Common.{◌≡◌, ◌∙◌, ℕ, List, [], Bool, true, false, Option, Some, None, Result, Ok, Err, sym, ap}
 use Rattle.stated_order.specs.Steps.{IsOne}
-use Rattle.stated_order.proofs.StepLaws.{then_is_one, in_turn_is_one}
+use Rattle.stated_order.proofs.StepLaws.{then_is_one, in_turn_is_one, ok_same}
 use Rattle.toml.specs.Data.{Data, Members}
 use Rattle.decimal_e.specs.Decimals.{Decimal}
 use Rattle.decimal_e.specs.declared.read.DecFault.{DecFault}
@@ -12,9 +12,6 @@ use Rattle.control_doc.specs.Control.{Is, IsDecimalIn, IsDecimalAt, IsWeight, Is
 
 is_one : {X : Type 0} (answer : X) → IsOne (Is answer)
 is_one answer r s a b = a ∙ sym b
-
-ok_same : (d e : Decimal) → (let r : Result Decimal DecFault = Ok d in let s : Result Decimal DecFault = Ok e in r ≡ s) → d ≡ e
-ok_same d e h = cc
 
 short_or_not : (b : Bool) → b ≡ true → b ≡ false → ⊥
 short_or_not b p q = let h : true ≡ false = sym p ∙ q in cc

@@ -1,4 +1,5 @@
 -- Decimals that are positive and short.
+use Rattle.stated_order.proofs.StepLaws.{ok_same}
 use Rattle.std.proofs.Common.{◌≡◌, ◌∙◌, ℕ, List, false, Option, Some, None, Result, Ok, Err, refl, sym, ap, subst, arith}
 use Rattle.std.proofs.lemmas.Int.{ints}
 use Rattle.decimal_e.specs.Decimals.{Decimal, IsCanonicalOf, IsBounded}
@@ -13,9 +14,6 @@ use Rattle.control_doc.specs.Views.{Answers, IsFault}
 use Rattle.control_doc.specs.declared.faults.ControlError.{ControlError}
 use Rattle.control_doc.specs.declared.faults.ControlCause.TheVariants as causes
 use Rattle.control_doc.proofs.Chain.{goes_on, stops, faulty}
-
-ok_same : (d e : Decimal) → (let r : Result Decimal DecFault = Ok d in let s : Result Decimal DecFault = Ok e in r ≡ s) → d ≡ e
-ok_same d e h = cc
 
 -- a text whose decimal is not short has no other
 pub not_short : (text : List ℕ) (d : Decimal) → ((other : Result Decimal DecFault) → IsAnswer text other → other ≡ Ok d) → is_positive_and_short d ≡ false → (e : Decimal) → IsAnswer text (Ok e) → is_positive_and_short e ≡ false

@@ -10,6 +10,7 @@ use Rattle.std.proofs.lemmas.Cmp.{nat_list_cmp_total}
 use Rattle.std.proofs.lemmas.List.Elements.{All-append}
 use Rattle.std.proofs.lemmas.List.Quantifiers.{all_pairs_push}
 use Rattle.std.proofs.lemmas.Slice.Eq.{bytes_eq-Decides}
+use Rattle.stated_order.proofs.StepLaws.{went_on, ok_same}
 use Rattle.stated_order.specs.Steps.{Then, GoesOn, InTurn}
 use Rattle.toml.specs.Data.{Data, Members, no_members, get_member}
 use Rattle.decimal_e.specs.Decimals.{Decimal}
@@ -31,12 +32,6 @@ use Rattle.control_doc.specs.declared.plans.Control.{Control}
 use Rattle.control_doc.specs.declared.faults.ControlCause.TheVariants as causes
 
 -- ---- what a value says of the steps before it
-ok_same : {X : Type 0} (x y : X) → (let r : Result X PlainFault = Ok x in let s : Result X PlainFault = Ok y in r ≡ s) → x ≡ y
-ok_same x y e = cc
-
-then_value : {X Y : Type 0} (first : Result X PlainFault → Type 0) (next : X → Result Y PlainFault → Type 0) (y : Y) → Then first next (Ok y) → GoesOn first next (Ok y)
-then_value first next y h = elim h [ inl f ↦ f | inr s ↦ let e = s.is_cause in absurd (cc) ]
-
 and_value : {X Y : Type 0} (f : Result X PlainFault) (next : X → Result Y PlainFault) (y : Y) → and_then f next ≡ Ok y → (x : X) × (f ≡ Ok x) × (next x ≡ Ok y)
 and_value (Ok x) next y h = (x, refl, h)
 and_value (Err e) next y h = absurd (cc)
@@ -74,7 +69,7 @@ named_value before entry name h =
 
 weight_value : (path : List ℕ) (given : Option Data) (d : Decimal) → IsWeight path given (Ok d) → is_positive_and_short d ≡ true
 weight_value path None d h = let same : d ≡ one = ok_same d one h in subst (λ x. is_positive_and_short x ≡ true) (sym same) refl
-weight_value path (Some given) d h = let g = then_value (Is (text_at path given)) (IsDecimalIn path) d h in g.onward.1
+weight_value path (Some given) d h = let g = went_on (Is (text_at path given)) (IsDecimalIn path) d h in g.onward.1
 
 -- ---- files
 abbrev Fine : PlainPlan → Type 0
@@ -85,11 +80,11 @@ Apart one other = one.name ≢ other.name
 
 plan_value : (before : List PlainPlan) (entry : Entry) (plan : PlainPlan) → IsPlan before entry (Ok plan) → (is_listed before plan.name ≡ false) × Fine plan
 plan_value before entry plan h =
-    let a = then_value _ _ plan h in
-    let b = then_value _ _ plan a.onward in
-    let c = then_value _ _ plan b.onward in
-    let d = then_value _ _ plan c.onward in
-    let e = then_value _ _ plan d.onward in
+    let a = went_on _ _ plan h in
+    let b = went_on _ _ plan a.onward in
+    let c = went_on _ _ plan b.onward in
+    let d = went_on _ _ plan c.onward in
+    let e = went_on _ _ plan d.onward in
     let named = named_value before entry a.gives (sym a.given) in
     let weighed = weight_value (key_path entry.path (codes "weight")) (get_member (codes "weight") entry.members) b.gives b.given in
     let whole : PlainPlan = record { name = a.gives; weight = b.gives; group = c.gives; form = d.gives; held = e.gives } in
@@ -116,7 +111,7 @@ plans_value before [] plans apart fine h =
     let count : length before ≡ length before + 0 = omega arith in
     subst (λ p. AllPairs Apart p × (All Fine p × (length p ≡ length before + 0))) (sym same) (apart, (fine, count))
 plans_value before (entry ∷ rest) plans apart fine h =
-    let g = then_value (IsPlan before entry) (λ plan. InTurn IsPlan (before ++ (plan ∷ [])) rest) plans h in
+    let g = went_on (IsPlan before entry) (λ plan. InTurn IsPlan (before ++ (plan ∷ [])) rest) plans h in
     let v = plan_value before entry g.gives g.given in
     let one_fine : All Fine (g.gives ∷ []) = all_one g.gives v.1 in
     let next = plans_value (before ++ (g.gives ∷ [])) rest plans (all_pairs_push Apart before g.gives apart (not_listed before g.gives.name v.0)) (All-append Fine before (g.gives ∷ []) fine one_fine) g.onward in
@@ -170,8 +165,8 @@ parts_value top parts h =
 sigma_value : (path : List ℕ) (given : Option Data) (sigma : Option Decimal) → IsSigma path given (Ok sigma) → IfSome sigma IsPositiveAndShort
 sigma_value path None sigma h = let same : sigma ≡ None = ok_same sigma None h in subst (λ o. IfSome o IsPositiveAndShort) (sym same) tt
 sigma_value path (Some given) sigma h =
-    let g = then_value (IsDecimalAt path given) (λ d r. r ≡ Ok (Some d)) sigma h in
-    let d = then_value (Is (text_at path given)) (IsDecimalIn path) g.gives g.given in
+    let g = went_on (IsDecimalAt path given) (λ d r. r ≡ Ok (Some d)) sigma h in
+    let d = went_on (Is (text_at path given)) (IsDecimalIn path) g.gives g.given in
     let same : sigma ≡ Some g.gives = ok_same sigma (Some g.gives) g.onward in
     subst (λ o. IfSome o IsPositiveAndShort) (sym same) d.onward.1
 
@@ -188,11 +183,11 @@ some_value datum found h = by_case datum.translation datum.rotation datum.scale 
 datum_value : (given : Option Members) (datum : Option PlainDatum) → IsDatum given (Ok datum) → IfSome datum HasPositiveSigmas
 datum_value None datum h = let same : datum ≡ None = ok_same datum None h in subst (λ o. IfSome o HasPositiveSigmas) (sym same) tt
 datum_value (Some members) datum h =
-    let a = then_value _ _ datum h in
-    let b = then_value _ _ datum a.onward in
-    let c = then_value _ _ datum b.onward in
-    let d = then_value _ _ datum c.onward in
-    let e = then_value _ _ datum d.onward in
+    let a = went_on _ _ datum h in
+    let b = went_on _ _ datum a.onward in
+    let c = went_on _ _ datum b.onward in
+    let d = went_on _ _ datum c.onward in
+    let e = went_on _ _ datum d.onward in
     let whole : PlainDatum = record { sites = a.gives; translation = b.gives; rotation = c.gives; scale = d.gives } in
     let same : whole ≡ e.gives = some_value whole e.gives (sym e.given) in
     let fine : HasPositiveSigmas whole = record {
@@ -237,15 +232,15 @@ scales_value table (key ∷ rest) scales found is room h =
 -- ---- the whole
 control_value : (top : Members) (control : PlainControl) → IsControlOf top (Ok control) → IsValidControl control × AreNamed control
 control_value top control h =
-    let a = then_value _ _ control h in
-    let b = then_value _ _ control a.onward in
-    let c = then_value _ _ control b.onward in
-    let d = then_value _ _ control c.onward in
-    let e = then_value _ _ control d.onward in
-    let f = then_value _ _ control e.onward in
-    let g = then_value _ _ control f.onward in
-    let i = then_value _ _ control g.onward in
-    let k = then_value _ _ control i.onward in
+    let a = went_on _ _ control h in
+    let b = went_on _ _ control a.onward in
+    let c = went_on _ _ control b.onward in
+    let d = went_on _ _ control c.onward in
+    let e = went_on _ _ control d.onward in
+    let f = went_on _ _ control e.onward in
+    let g = went_on _ _ control f.onward in
+    let i = went_on _ _ control g.onward in
+    let k = went_on _ _ control i.onward in
     let parts = parts_value top a.gives (sym a.given) in
     let files = plans_value [] (entries (codes "file") a.gives.files) d.gives none_apart none_fine d.given in
     let each : length (entries (codes "file") a.gives.files) ≡ length a.gives.files = entry_count 0 (codes "file") a.gives.files in

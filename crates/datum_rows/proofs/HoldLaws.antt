@@ -5,6 +5,7 @@ use Rattle.std.proofs.Math.Nat.{mul-pos}
 use Rattle.std.proofs.lemmas.Int.{ints}
 use Rattle.std.proofs.lemmas.List.{get_or-map}
 use Rattle.std.proofs.lemmas.Option.{get_or_from_slice_get, slice_get_within}
+use Rattle.stated_order.proofs.StepLaws.{ok_same}
 use Rattle.stated_order.specs.Lists.{AreEach}
 use Rattle.stated_order.specs.Steps.{Through}
 use Rattle.whole_numbers.specs.Intervals.{Interval, Holds, interval_add}
@@ -121,9 +122,6 @@ module _ (exponent : PlainId → ℤ) (sites : List Site) (neq : PlainNeq) (cond
   }
 
 -- ---- all conditions
-ok_same : {X E : Type 0} (x y : X) → (let r : Result X E = Ok x in let s : Result X E = Ok y in r ≡ s) → x ≡ y
-ok_same x y e = cc
-
 system_moves : (sites : List Site) (neq before : PlainNeq) (condition : Condition) (R : NamedSystem) → neq.names ≡ before.names → neq.apriori ≡ before.apriori → IsConditionSystem sites neq condition R → IsConditionSystem sites before condition R
 system_moves sites neq before condition R names apriori is = record {
   some = is.some;

@@ -3,6 +3,7 @@ use Rattle.std.proofs.Common.{◌≡◌, ◌≤◌, ◌<◌, ◌+◌, ◌*◌, �
 use Rattle.std.proofs.Math.IntN.{◌-ℤ◌}
 use Rattle.std.proofs.lemmas.Bool.{cases_lt}
 use Rattle.std.proofs.lemmas.Int.{ints}
+use Rattle.stated_order.proofs.StepLaws.{ok_same}
 use Rattle.stated_order.specs.First.{HoldsLower}
 use Rattle.stated_order.specs.Steps.{Through}
 use Rattle.whole_numbers.specs.Intervals.{Interval, interval_add, size}
@@ -81,9 +82,6 @@ module _ (sites : List Site) (neq : PlainNeq) (condition : Condition) (after : P
   }
 
 -- ---- one condition after another
-ok_same : {X E : Type 0} (x y : X) → (let r : Result X E = Ok x in let s : Result X E = Ok y in r ≡ s) → x ≡ y
-ok_same x y e = cc
-
 pub sound_through : (sites : List Site) (neq after : PlainNeq) (list : List Condition) → Through (AddsRow sites) neq list (Ok after) → IsSound neq → IsSound after
 sound_through sites neq after [] is sound = subst IsSound (ok_same neq after (sym is)) sound
 sound_through sites neq after (c ∷ rest) is sound =

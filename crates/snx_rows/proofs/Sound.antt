@@ -9,6 +9,7 @@ use Rattle.std.proofs.lemmas.Option.{slice_get_within, slice_get-get_or, get_or_
 use Rattle.std.proofs.lemmas.Nat.{pow-add}
 use Rattle.std.proofs.Math.Nat.{mul-le-mul_right}
 use Rattle.std.proofs.Math.Decide.{dec_lt}
+use Rattle.stated_order.proofs.StepLaws.{went_on, ok_same}
 use Rattle.stated_order.specs.Steps.{GoesOn, Then}
 use Rattle.whole_numbers.proofs.Powers.{ten_le}
 use Rattle.decimal_e.specs.Digits.{number}
@@ -23,13 +24,6 @@ use Rattle.snx_rows.specs.declared.causes.Cause.TheVariants as causes
 use Rattle.snx_rows.specs.declared.rows.Shape.{Shape}
 use Rattle.snx_rows.specs.declared.rows.Shape.TheVariants.{Value, Vector}
 use Rattle.snx_rows.specs.declared.rows.Row.{Row}
-
--- ---- steps that gave something
-went_on : {X Y C : Type 0} (first : Result X C → Type 0) (next : X → Result Y C → Type 0) (y : Y) → Then first next (Ok y) → GoesOn first next (Ok y)
-went_on first next y h = elim h [ inl f ↦ f | inr f ↦ let e = f.is_cause in cc ]
-
-ok_same : {X E : Type 0} (x y : X) → (let r : Result X E = Ok x in let s : Result X E = Ok y in r ≡ s) → x ≡ y
-ok_same x y e = cc
 
 -- ---- indices
 first_digit : (n d m : ℕ) → d ≤ 9 → m < 10 ^ n → d * 10 ^ n + m < 10 ^ suc n

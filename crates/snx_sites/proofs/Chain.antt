@@ -1,7 +1,7 @@
 -- The fields of a line, one after another.
 use Rattle.std.proofs.Common.{◌≡◌, inl, inr, ℕ, List, Result, Ok, Err, ap, sym, subst, refl}
 use Rattle.stated_order.specs.Steps.{Then, GoesOn}
-use Rattle.stated_order.proofs.StepLaws.{then_gives, then_stops}
+use Rattle.stated_order.proofs.StepLaws.{then_gives, then_stops, went_on, ok_same, err_same}
 use Rattle.blanks.specs.Blanks.{end_trimmed}
 use Rattle.snx_epoch.specs.declared.Epoch.{Epoch}
 use Rattle.snx_rows.specs.Blocks.{Answers}
@@ -16,15 +16,6 @@ use Rattle.snx_sites.specs.Sites.{IsCodeOn, IsPointOn, IsSolnOn, IsTechniqueOn, 
 -- the code and the point on a line
 abbrev AreNames : List ℕ → Result (List ℕ × List ℕ) Cause → Type 0
 AreNames text = Then (IsCodeOn text) (λ code. Then (IsPointOn text) (λ point names. names ≡ Ok (code, point)))
-
-went_on : {X Y C : Type 0} (first : Result X C → Type 0) (next : X → Result Y C → Type 0) (y : Y) → Then first next (Ok y) → GoesOn first next (Ok y)
-went_on first next y h = elim h [ inl f ↦ f | inr f ↦ let e = f.is_cause in cc ]
-
-ok_same : {X E : Type 0} (x y : X) → (let r : Result X E = Ok x in let s : Result X E = Ok y in r ≡ s) → x ≡ y
-ok_same x y e = cc
-
-err_same : {X E : Type 0} (c d : E) → (let r : Result X E = Err c in let s : Result X E = Err d in r ≡ s) → c ≡ d
-err_same c d e = cc
 
 pub names_stop : (text code : List ℕ) → IsCodeOn text (Ok code) → (cause : Cause) → IsPointOn text (Err cause) → AreNames text (Err cause)
 names_stop text code has_code cause refused = then_gives _ _ code _ has_code (then_stops _ _ cause refused)

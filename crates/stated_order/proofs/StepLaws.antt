@@ -39,13 +39,14 @@ pub through_is_one : {S A C : Type 0} (step : S → A → Result S C → Type 0)
 through_is_one step one before [] = λ r s a b. a ∙ sym b
 through_is_one step one before (a ∷ rest) = then_is_one (step before a) (λ after. Through step after rest) (one before a) (λ after given. through_is_one step one after rest)
 
--- ---- other names
-ok_same : {X E : Type 0} (x y : X) → (let r : Result X E = Ok x in let s : Result X E = Ok y in r ≡ s) → x ≡ y
+-- ---- results that are equal give the same
+pub ok_same : {X E : Type 0} (x y : X) → (let r : Result X E = Ok x in let s : Result X E = Ok y in r ≡ s) → x ≡ y
 ok_same x y e = cc
 
-err_same : {X E : Type 0} (c d : E) → (let r : Result X E = Err c in let s : Result X E = Err d in r ≡ s) → c ≡ d
+pub err_same : {X E : Type 0} (c d : E) → (let r : Result X E = Err c in let s : Result X E = Err d in r ≡ s) → c ≡ d
 err_same c d e = cc
 
+-- ---- other names
 -- a step has one result with other names for its refusals, where it has one
 pub renamed_is_one : {X E C : Type 0} (rename : E → C) (step : Result X E → Type 0) → IsOne step → IsOne (Renamed rename step)
 renamed_is_one rename step one (Ok x) (Ok y) a b = ap Ok (ok_same x y (one (Ok x) (Ok y) a b))
@@ -62,6 +63,10 @@ then_gives first next x r given onward = inl (record { gives = x; given = given;
 
 pub then_stops : {X Y C : Type 0} (first : Result X C → Type 0) (next : X → Result Y C → Type 0) (c : C) → first (Err c) → Then first next (Err c)
 then_stops first next c refused = inr (record { cause = c; refused = refused; is_cause = refl })
+
+-- where the second step gave something, the first went on to it
+pub went_on : {X Y C : Type 0} (first : Result X C → Type 0) (next : X → Result Y C → Type 0) (y : Y) → Then first next (Ok y) → GoesOn first next (Ok y)
+went_on first next y h = elim h [ inl f ↦ f | inr f ↦ let e = f.is_cause in absurd (cc) ]
 
 -- ---- what a loop shows: the members so far, and one more
 pub in_turn_more : {A B C : Type 0} (step : List B → A → Result B C → Type 0) (before given : List B) (list : List A) (a : A) (b : B) → InTurn step before list (Ok given) → step given a (Ok b) → InTurn step before (list ++ (a ∷ [])) (Ok (given ++ (b ∷ [])))
