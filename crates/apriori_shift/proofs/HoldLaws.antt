@@ -1,6 +1,6 @@
 -- Where a system lies in normal equations, it lies, taken to other values, in the normal equations at these.
 use Rattle.stated_order.proofs.StepLaws.{ok_same}
-use Rattle.std.proofs.Common.{◌≡◌, ◌<◌, ◌*◌, ◌∙◌, inl, inr, ℕ, ℤ, pos, ◌*ℤ◌, List, Option, Some, Ok, Result, map, slice_get, refl, sym, ap, subst, arith}
+use Rattle.std.proofs.Common.{◌≡◌, ◌<◌, ◌*◌, ◌∙◌, inl, inr, ℕ, ℤ, pos, ◌*ℤ◌, List, Option, Some, Ok, map, slice_get, refl, sym, ap, subst, arith}
 use Rattle.std.specs.Prelude.{slice_index_or, unwrap_or, Contains}
 use Rattle.std.specs.Option.{option_map}
 use Rattle.std.proofs.Math.IntN.{◌-ℤ◌, zero-*ℤ}
@@ -28,7 +28,7 @@ use Rattle.neq_stack.proofs.NameLaws.{contained, place_cases}
 use Rattle.neq_stack.proofs.PlaceLaws.{name_there}
 use Rattle.neq_stack.proofs.PlacedLaws.{no_row, no_right, right_there}
 use Rattle.recover_neq.proofs.LawExact.{means_holds}
-use Rattle.difference_products.specs.Products.{Place, IsProduct}
+use Rattle.difference_products.specs.Products.{IsProduct}
 use Rattle.difference_products.specs.Exact.{HoldFactors}
 use Rattle.difference_products.proofs.HoldLaws.{product_holds}
 use Rattle.apriori_shift.specs.Moves.{IsExactDifference, Moves, ShiftHolds, row_times}

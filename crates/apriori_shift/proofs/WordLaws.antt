@@ -1,5 +1,5 @@
 -- How large the intervals of values are: one of at most 10^12 times 10^20 is at most 10^32.
-use Rattle.std.proofs.Common.{ℤ, pos, ◌^◌, ◌≤◌, arith}
+use Rattle.std.proofs.Common.{pos, ◌^◌, ◌≤◌, arith}
 use Rattle.std.proofs.lemmas.Int.{ints}
 use Rattle.whole_numbers.specs.Intervals.{size}
 use Rattle.decimal_e.specs.Decimals.{Decimal}

@@ -1,14 +1,10 @@
 -- How large the terms of the estimate are.
-use Rattle.std.proofs.Common.{◌≡◌, ℕ, suc, ℤ, pos, negsuc, ◌+ℤ◌, ◌*ℤ◌, ◌≤ℤ◌, ◌+◌, ◌-◌, ◌*◌, ◌^◌, ◌≤◌, unsigned_abs, arith, sym, ap, ◌∙◌}
-use Rattle.std.proofs.Math.Nat.{mul-le-mul, mul-le-mul_right}
-use Rattle.std.proofs.Math.Decide.{dec_le}
-use Rattle.std.proofs.lemmas.Nat.{pow-add}
+use Rattle.std.proofs.Common.{ℕ, suc, ℤ, pos, negsuc, ◌*ℤ◌, ◌≤ℤ◌, ◌*◌, ◌^◌, ◌≤◌, unsigned_abs, arith}
+use Rattle.std.proofs.Math.Nat.{mul-le-mul}
 use Rattle.std.proofs.lemmas.Int.{ints, to_z-of_z, unsigned_abs-mul}
-use Rattle.whole_numbers.specs.Intervals.{size}
-use Rattle.whole_numbers.specs.Scaling.{floor_scaled, ceil_scaled, ten_above as ten_over, ten_below}
+use Rattle.whole_numbers.specs.Scaling.{floor_scaled}
 use Rattle.whole_numbers.proofs.Powers.{ten_le, ten_pow_above}
-use Rattle.whole_numbers.proofs.Scaled.{floor_scaled_le_ceil}
-use Rattle.whole_numbers.proofs.Sizes.{floor_small, ceil_small, quotient_small}
+use Rattle.whole_numbers.proofs.Sizes.{quotient_small}
 use Rattle.decimal_e.proofs.SizeLaws.{ends_ordered}
 use Rattle.decimal_e.proofs.ValueSizes.{value_small}
 

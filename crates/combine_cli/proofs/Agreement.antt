@@ -1,7 +1,7 @@
 -- The parts of files at common values agree on their parameters.
-use Rattle.std.proofs.Common.{◌≡◌, ◌∷◌, ◌++◌, ◌*◌, ◌^◌, ◌∙◌, inl, inr, ℕ, ℤ, zero, suc, Bool, true, false, cond, List, [], length, map, slice_get, Option, Some, None, Ok, refl, sym, ap, subst, arith, codes}
+use Rattle.std.proofs.Common.{◌≡◌, ◌∷◌, ◌++◌, ◌*◌, ◌^◌, ◌∙◌, ℕ, ℤ, zero, suc, List, [], length, map, slice_get, Option, Some, Ok, refl, sym, ap, subst, arith, codes}
 use Rattle.std.specs.Prelude.{All, Contains}
-use Rattle.std.specs.List.{filter, find, flat_map}
+use Rattle.std.specs.List.{filter, flat_map}
 use Rattle.std.specs.Net.Reader.{map_or}
 use Rattle.std.specs.Option.{option_map}
 use Rattle.std.proofs.lemmas.List.Concat.{flat_map-cons}
@@ -11,15 +11,12 @@ use Rattle.stated_order.specs.Lists.{AreEach}
 use Rattle.decimal_e.specs.Decimals.{Decimal}
 use Rattle.param_ids.specs.Plain.{PlainId}
 use Rattle.param_ids.specs.Tables.{ScaleMap}
-use Rattle.param_ids.proofs.SameIds.{same_id}
 use Rattle.snx_rows.specs.declared.rows.Row.{Row}
-use Rattle.snx_blocks.specs.Documents.{PlainMatrix}
 use Rattle.neq_stack.specs.Neqs.{PlainNeq, IsSound}
 use Rattle.neq_stack.specs.ByName.{Parameter, HasParameter, AllAgree, AreAtMost}
-use Rattle.recover_neq.specs.Blocks.{Blocks, blocks_of, is_row_of, row_of, value_of}
+use Rattle.recover_neq.specs.Blocks.{Blocks, value_of}
 use Rattle.recover_neq.specs.Recovery.{IsParameterOf, scale_of}
 use Rattle.recover_neq.proofs.ParameterLaws.{parameters_are}
-use Rattle.apriori_shift.specs.Shifts.{IsShift}
 use Rattle.run_inputs.specs.Inputs.{PlainInput}
 use Rattle.combine_cli.specs.Combination.{apriori_rows, is_reference, counted_rows, HaveCommon, Part}
 use Rattle.combine_cli.specs.Parts.{neqs_of, IsPartOf}

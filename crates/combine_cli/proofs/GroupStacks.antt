@@ -1,5 +1,5 @@
 -- The stacks of groups: what is known of a group's members, and of the stacks of all groups.
-use Rattle.std.proofs.Common.{◌≡◌, ◌∙◌, ◌++◌, ◌∷◌, ◌<◌, ◌≤◌, ◌*◌, ◌+◌, ◌^◌, ℕ, List, [], length, get_or, take, drop, map, Result, Ok, Err, ap, sym, subst, arith, append_assoc, length-append, lit<}
+use Rattle.std.proofs.Common.{◌≡◌, ◌∙◌, ◌++◌, ◌∷◌, ◌<◌, ◌≤◌, ◌*◌, ◌+◌, ℕ, List, [], length, get_or, take, drop, map, Result, Ok, Err, ap, sym, subst, arith, append_assoc, length-append}
 use Rattle.std.specs.Prelude.{All, Contains}
 use Rattle.std.specs.List.{filter}
 use Rattle.std.proofs.Math.Nat.{mul-le-mul_right}

@@ -1,7 +1,6 @@
 -- Normal equations that were recovered of a file, brought to the common values.
-use Rattle.std.proofs.Common.{◌≡◌, ◌≤◌, ◌∷◌, ◌∙◌, ◌*◌, ◌^◌, suc, inl, inr, ℕ, pos, Bool, true, false, cond, List, [], map, get_or, Option, Some, None, Ok, Err, refl, sym, ap, subst, arith}
+use Rattle.std.proofs.Common.{◌≡◌, ◌≤◌, ◌∙◌, ◌*◌, ◌^◌, ℕ, pos, List, [], map, get_or, Some, Ok, Err, sym, ap, subst, arith}
 use Rattle.std.specs.Prelude.{All, Contains, IsSome}
-use Rattle.std.specs.List.{find}
 use Rattle.std.specs.Net.Reader.{map_or}
 use Rattle.std.specs.BTreeMap.{get}
 use Rattle.std.proofs.lemmas.List.Elements.{All-contains, All-contains_itself, All-map, All-weaker}
@@ -14,14 +13,13 @@ use Rattle.difference_products.specs.Products.{Place}
 use Rattle.param_ids.specs.Plain.{PlainId}
 use Rattle.param_ids.specs.Order.{id_cmp}
 use Rattle.param_ids.specs.Tables.{ScaleMap}
-use Rattle.param_ids.proofs.SameIds.{same_id}
 use Rattle.param_ids.proofs.Unions.{one_rising}
 use Rattle.snx_rows.specs.declared.rows.Row.{Row}
-use Rattle.snx_blocks.specs.Documents.{PlainDoc, PlainMatrix}
+use Rattle.snx_blocks.specs.Documents.{PlainDoc}
 use Rattle.neq_stack.specs.ByName.{Parameter, HasParameter, AreAtMost}
 use Rattle.neq_stack.specs.Neqs.{PlainNeq, IsSound}
 use Rattle.neq_stack.specs.Systems.{NamedSystem, LiesInNeq}
-use Rattle.recover_neq.specs.Blocks.{Blocks, blocks_of, blocks_in, zero_decimal, is_row_of, row_of, value_of}
+use Rattle.recover_neq.specs.Blocks.{Blocks, blocks_in, zero_decimal, value_of}
 use Rattle.recover_neq.specs.Recovery.{AreNamesOf, IsNeqOf, IsRecovered, scale_of}
 use Rattle.recover_neq.proofs.NameLaws.{ids_in}
 use Rattle.recover_neq.proofs.ParameterLaws.{parameters_are}

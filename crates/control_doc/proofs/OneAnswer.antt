@@ -1,10 +1,8 @@
 -- A control file says one control at most, or has one first fault.
-use Rattle.std.proofs.Common.{◌≡◌, ◌∙◌, ℕ, List, [], Bool, true, false, Option, Some, None, Result, Ok, Err, sym, ap}
+use Rattle.std.proofs.Common.{◌≡◌, ◌∙◌, ℕ, List, [], Bool, true, false, Option, Some, None, Ok, Err, sym, ap}
 use Rattle.stated_order.specs.Steps.{IsOne}
 use Rattle.stated_order.proofs.StepLaws.{then_is_one, in_turn_is_one, ok_same}
 use Rattle.toml.specs.Data.{Data, Members}
-use Rattle.decimal_e.specs.Decimals.{Decimal}
-use Rattle.decimal_e.specs.declared.read.DecFault.{DecFault}
 use Rattle.decimal_e.proofs.Outcomes.{one_answer_of}
 use Rattle.control_doc.specs.Plain.{PlainPlan}
 use Rattle.control_doc.specs.Tables.{Entry}

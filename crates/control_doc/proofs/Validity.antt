@@ -1,5 +1,5 @@
 -- What every control keeps: its files, their names and weights, the standard deviations of its datum, and its scale exponents.
-use Rattle.std.proofs.Common.{◌≡◌, ◌≢◌, ◌≤◌, ◌<◌, ◌+◌, ◌∙◌, ◌++◌, ◌∷◌, inl, inr, ℕ, zero, suc, ℤ, pos, negsuc, List, [], Bool, true, false, ◌&&◌, ◌||◌, cond, if◌then◌else◌, length, get_or, Option, Some, None, Result, Ok, Err, IfOk, IfSome, codes, refl, sym, ap, subst, arith, length-append}
+use Rattle.std.proofs.Common.{◌≡◌, ◌≢◌, ◌≤◌, ◌<◌, ◌+◌, ◌∙◌, ◌++◌, ◌∷◌, ℕ, zero, suc, ℤ, pos, negsuc, List, [], Bool, true, false, ◌&&◌, ◌||◌, cond, if◌then◌else◌, length, get_or, Option, Some, None, Result, Ok, Err, IfOk, IfSome, codes, refl, sym, ap, subst, arith, length-append}
 use Rattle.std.specs.Prelude.{nat_le, int_le}
 use Rattle.std.specs.List.{All, AllPairs, list_all}
 use Rattle.std.specs.Str.{bytes_eq}
@@ -11,13 +11,13 @@ use Rattle.std.proofs.lemmas.List.Elements.{All-append}
 use Rattle.std.proofs.lemmas.List.Quantifiers.{all_pairs_push}
 use Rattle.std.proofs.lemmas.Slice.Eq.{bytes_eq-Decides}
 use Rattle.stated_order.proofs.StepLaws.{went_on, ok_same}
-use Rattle.stated_order.specs.Steps.{Then, GoesOn, InTurn}
+use Rattle.stated_order.specs.Steps.{InTurn}
 use Rattle.toml.specs.Data.{Data, Members, no_members, get_member}
 use Rattle.decimal_e.specs.Decimals.{Decimal}
 use Rattle.param_ids.specs.Tables.{ScaleMap, IsScaleMap, IsScale, standard_scales}
 use Rattle.param_ids.specs.Texts.{in_6}
 use Rattle.param_ids.proofs.Scaled.{is_scale_map_after, standard_is_scale_map, standard_len}
-use Rattle.control_doc.specs.Control.{Is, IsRead, IsControl, IsControlOf, IsPlan, IsWeight, IsSigma, IsDatum, IsDatumIn, IsDecimalIn, IsDecimalAt, sites_in, with_sigma, Parts, parts_in, top_keys, file_count, no_more_than, file_name, new_name, is_listed, one, is_positive_and_short, scale_keys, scales_from, with_scale, exponent_of, table_in}
+use Rattle.control_doc.specs.Control.{Is, IsRead, IsControl, IsControlOf, IsPlan, IsWeight, IsSigma, IsDatum, IsDecimalIn, IsDecimalAt, with_sigma, Parts, parts_in, top_keys, file_count, no_more_than, file_name, new_name, is_listed, one, is_positive_and_short, scale_keys, scales_from, with_scale, exponent_of, table_in}
 use Rattle.control_doc.specs.Faults.{PlainFault, fault, or_fault, and_then, key_path}
 use Rattle.control_doc.specs.Plain.{PlainPlan, PlainDatum, PlainControl}
 use Rattle.control_doc.specs.Tables.{Entry, entries, entries_from, keys_of, only_keys, there, if_there, needed, text_needed, text_at, integer_at, table_at, tables_at}

@@ -1,5 +1,5 @@
 -- What normal equations keep when conditions are added.
-use Rattle.std.proofs.Common.{◌≡◌, ◌≤◌, ◌<◌, ◌+◌, ◌*◌, ◌^◌, ◌∙◌, inl, inr, ℕ, suc, ℤ, pos, ◌*ℤ◌, List, [], ◌∷◌, Result, Ok, All, length, sym, ap, subst, arith}
+use Rattle.std.proofs.Common.{◌≡◌, ◌≤◌, ◌<◌, ◌+◌, ◌*◌, ◌^◌, ◌∙◌, inl, inr, ℕ, suc, ℤ, pos, ◌*ℤ◌, List, [], ◌∷◌, Ok, All, length, sym, ap, subst, arith}
 use Rattle.std.proofs.Math.IntN.{◌-ℤ◌}
 use Rattle.std.proofs.lemmas.Bool.{cases_lt}
 use Rattle.std.proofs.lemmas.Int.{ints}

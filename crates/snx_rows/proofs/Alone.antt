@@ -1,5 +1,5 @@
 -- A line is one row at most or has one fault, and never both; so has a block of rows one reading.
-use Rattle.std.proofs.Common.{arith, ◌≡◌, ◌∙◌, ◌∷◌, ℕ, List, [], Ok, Err, sym, ap, refl}
+use Rattle.std.proofs.Common.{arith, ◌∙◌, ◌∷◌, ℕ, List, [], Ok, Err, sym, ap}
 use Rattle.stated_order.specs.Steps.{IsOne}
 use Rattle.stated_order.proofs.StepLaws.{then_is_one, renamed_is_one, in_turn_is_one}
 use Rattle.snx_lines.specs.Lines.{PlainLine, columns}

@@ -1,5 +1,5 @@
 -- What the rows of a block keep.
-use Rattle.std.proofs.Common.{◌≡◌, ◌∙◌, ◌++◌, ◌∷◌, ◌⊎◌, inl, inr, ℕ, suc, if◌then◌else◌, ◌+◌, ◌-◌, ◌*◌, ◌<◌, ◌≤◌, ◌^◌, Bool, true, false, List, [], length, Option, Some, None, Result, Ok, sym, ap, refl, subst, arith}
+use Rattle.std.proofs.Common.{◌≡◌, ◌∙◌, ◌++◌, ◌∷◌, ◌⊎◌, inl, inr, ℕ, suc, if◌then◌else◌, ◌+◌, ◌-◌, ◌*◌, ◌<◌, ◌≤◌, ◌^◌, Bool, true, false, List, [], length, Option, Some, None, Ok, sym, ap, refl, subst, arith}
 use Rattle.std.specs.List.{list_all, slice_get}
 use Rattle.std.specs.Char.{is_ascii_digit}
 use Rattle.std.proofs.lemmas.Bool.{leb-true, and_parts}
@@ -10,7 +10,6 @@ use Rattle.std.proofs.lemmas.Nat.{pow-add}
 use Rattle.std.proofs.Math.Nat.{mul-le-mul_right}
 use Rattle.std.proofs.Math.Decide.{dec_lt}
 use Rattle.stated_order.proofs.StepLaws.{went_on, ok_same}
-use Rattle.stated_order.specs.Steps.{GoesOn, Then}
 use Rattle.whole_numbers.proofs.Powers.{ten_le}
 use Rattle.decimal_e.specs.Digits.{number}
 use Rattle.decimal_e.specs.Decimals.{Decimal}
