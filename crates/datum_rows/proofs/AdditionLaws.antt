@@ -31,11 +31,11 @@ use Rattle.datum_rows.specs.declared.sites.Coordinate.{Coordinate}
 use Rattle.datum_rows.specs.declared.rows.Place.{Place}
 use Rattle.datum_rows.specs.Conditions.{Motion, TranslationX, TranslationY, TranslationZ, RotationX, RotationY, RotationZ, Dilation, Axis, AxisX, AxisY, AxisZ, Triple, Condition, along, coefficients, conditions, given, reach}
 use Rattle.datum_rows.specs.Sites.{is_matched, is_of_site, axis_of, metres, position, coefficient_along, coefficient_of}
-use Rattle.datum_rows.specs.Additions.{Fault, Unmatched, Range, matched, matched_in, coefficient_at, IsRowInterval, RowFits, IsWithRow, AddsRow, IsAddition}
+use Rattle.datum_rows.specs.Additions.{Fault, Range, matched, matched_in, coefficient_at, IsRowInterval, RowFits, IsWithRow, AddsRow, IsAddition}
 use Rattle.datum_rows.specs.Rows.{AreLaidOut, IsRowAt, FitsAt, FitsAll, IsMisfit, AreTested, AreFitting, AreFine, IsTableWith, AreAllAdded, IsTableAtMost}
 use Rattle.datum_rows.specs.Views.{condition_view, coefficient_by, coordinate_at, AreCoordinates}
 use Rattle.datum_rows.proofs.Alone.{one_row_interval}
-use Rattle.datum_rows.proofs.KeptLaws.{sound_after, sound_through, modest_through, row_turned}
+use Rattle.datum_rows.proofs.KeptLaws.{IsKept, sound_after, sound_through, modest_through, kept_through, row_turned}
 use Rattle.datum_rows.proofs.RowLaws.{over_moved, product_few}
 use Rattle.datum_rows.proofs.SameLaws.{coefficient_same}
 use Rattle.datum_rows.proofs.Sigmas.{Each, IsFine, fine_conditions}
@@ -241,9 +241,6 @@ module _ (datum : PlainDatum) (neq : PlainNeq) where
   abbrev unmatched_in : Option Site
   unmatched_in = find (λ site. not (is_matched neq.names site)) datum.sites
 
-  pub not_matched : (site : Site) → Some site ≡ unmatched_in → IsAddition datum neq (Err (Unmatched site))
-  not_matched site is = then_stops (λ r. r ≡ matched datum.sites neq.names) (λ all_matched. Through (AddsRow datum.sites) neq (conditions datum)) (Unmatched site) (ap matched_in is)
-
   all_matched_then : (result : Result PlainNeq Fault) → None ≡ unmatched_in → Through (AddsRow datum.sites) neq (conditions datum) result → IsAddition datum neq result
   all_matched_then result is through = then_gives (λ r. r ≡ matched datum.sites neq.names) (λ all_matched. Through (AddsRow datum.sites) neq (conditions datum)) tt result (ap matched_in is) through
 
@@ -260,6 +257,13 @@ module _ (datum : PlainDatum) (neq : PlainNeq) where
   sound_addition after addition sound =
       elim addition [
         | inl f ↦ sound_through datum.sites neq after (conditions datum) f.onward sound
+        | inr f ↦ let e = f.is_cause in cc
+      ]
+
+  pub kept_addition : (after : PlainNeq) → IsAddition datum neq (Ok after) → IsKept neq after
+  kept_addition after addition =
+      elim addition [
+        | inl f ↦ kept_through datum.sites neq after (conditions datum) f.onward
         | inr f ↦ let e = f.is_cause in cc
       ]
 

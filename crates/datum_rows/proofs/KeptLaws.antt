@@ -1,5 +1,5 @@
 -- What normal equations keep when conditions are added.
-use Rattle.std.proofs.Common.{◌≡◌, ◌≤◌, ◌<◌, ◌+◌, ◌*◌, ◌^◌, ◌∙◌, inl, inr, ℕ, suc, ℤ, pos, ◌*ℤ◌, List, [], ◌∷◌, Ok, All, length, sym, ap, subst, arith}
+use Rattle.std.proofs.Common.{◌≡◌, ◌≤◌, ◌<◌, ◌+◌, ◌*◌, ◌^◌, ◌∙◌, inl, inr, ℕ, suc, ℤ, pos, ◌*ℤ◌, List, [], ◌∷◌, Result, Ok, All, length, sym, ap, subst, arith}
 use Rattle.std.proofs.Math.IntN.{◌-ℤ◌}
 use Rattle.std.proofs.lemmas.Bool.{cases_lt}
 use Rattle.std.proofs.lemmas.Int.{ints}
@@ -99,5 +99,26 @@ modest_through sites neq after (c ∷ rest) most is small =
       | inl f ↦
           let e : most + 10 ^ 34 + length rest * 10 ^ 34 ≡ most + suc (length rest) * 10 ^ 34 = omega arith in
           subst (λ n. AreAtMost n after) e (modest_through sites f.gives after rest (most + 10 ^ 34) f.onward (modest_after sites neq c f.gives most f.given.0 f.given.1 small))
+      | inr f ↦ let e = f.is_cause in cc
+    ]
+
+-- all but the matrix is as before
+pub record IsKept (neq after : PlainNeq) : Type 0 where
+  pub names : after.names ≡ neq.names
+  pub right : after.right ≡ neq.right
+  pub apriori : after.apriori ≡ neq.apriori
+  pub units : after.units ≡ neq.units
+  pub scales : after.scales ≡ neq.scales
+
+pub kept_through : (sites : List Site) (neq after : PlainNeq) (list : List Condition) → Through (AddsRow sites) neq list (Ok after) → IsKept neq after
+kept_through sites neq after [] is =
+    let same = ok_same after neq is in
+    record { names = ap (λ n. n.names) same; right = ap (λ n. n.right) same; apriori = ap (λ n. n.apriori) same; units = ap (λ n. n.units) same; scales = ap (λ n. n.scales) same }
+kept_through sites neq after (c ∷ rest) is =
+    elim is [
+      | inl f ↦
+          let later = kept_through sites f.gives after rest f.onward in
+          let first = f.given.1 in
+          record { names = later.names ∙ first.names; right = later.right ∙ first.right; apriori = later.apriori ∙ first.apriori; units = later.units ∙ first.units; scales = later.scales ∙ first.scales }
       | inr f ↦ let e = f.is_cause in cc
     ]

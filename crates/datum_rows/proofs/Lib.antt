@@ -2,6 +2,7 @@ pub mod SameLaws
 pub mod ZeroLaws
 pub mod ListLaws
 pub mod NamedRows
+pub mod PlaceLaws
 pub mod RowLaws
 pub mod Sigmas
 pub mod SiteLaws

@@ -44,9 +44,6 @@ module _ (coordinates : List (Option Coordinate)) (scales : List ℤ) where
   added_more (y ∷ ys) zero x old mid new lt is before here = (new, subst (λ t. IsTableWith coordinates scales (condition_view y) t new) before (subst (λ c. IsTableWith coordinates scales (condition_view c) mid new) is here), refl)
   added_more (y ∷ ys) (suc k) x old mid new lt is before here = (before.0, before.1, added_more ys k x before.0 mid new (omega arith) is before.2 here)
 
-  pub added_all : (xs : List Condition) (k : ℕ) (old new : SymTable) → length xs ≤ k → AreAllAdded coordinates scales (take k xs) old new → AreAllAdded coordinates scales xs old new
-  added_all xs k old new all added = subst (λ l. AreAllAdded coordinates scales l old new) (take_all k xs all) added
-
   pub table_grows : (condition : View) (old new : SymTable) (most : ℕ) → old.size ≡ length coordinates → FitsAll coordinates scales condition → IsTableWith coordinates scales condition old new → IsTableAtMost most old → IsTableAtMost (most + 10 ^ 34) new
   table_grows condition old new most rows fits with_row small i j lt low =
       let within : i < old.size = omega (arith, with_row.rows) in

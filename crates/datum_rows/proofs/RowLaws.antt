@@ -51,9 +51,6 @@ module _ (coordinates : List (Option Coordinate)) (scales : List ℤ) (condition
   none_zero : (k : ℕ) → coordinate_at coordinates k ≡ None → coefficient_by condition.motion (coordinate_at coordinates k) ≡ pos 0
   none_zero k none = ap (coefficient_by condition.motion) none
 
-  power_at : ℕ → ℕ → ℤ
-  power_at i j = pos 18 -ℤ pos (reach condition.motion) -ℤ at scales i -ℤ at scales j
-
   pub zero_row : (i j : ℕ) → coordinate_at coordinates i ≡ None → IsRowAt coordinates scales condition i j zero_interval
   zero_row i j none =
       zero_over_square (coefficient_by condition.motion (coordinate_at coordinates i) *ℤ coefficient_by condition.motion (coordinate_at coordinates j)) condition.sigma (pos 18 -ℤ pos (reach condition.motion) -ℤ at scales i -ℤ at scales j)

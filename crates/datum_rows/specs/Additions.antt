@@ -1,5 +1,5 @@
 -- Normal equations with the rows of a datum.
-use Rattle.std.specs.Prelude.{◌≡◌, ◌≤◌, ◌<◌, ◌^◌, ℕ, ℤ, pos, ◌*ℤ◌, ◌-ℤ◌, not, List, length, Option, Some, None, Result, Ok, Err}
+use Rattle.std.specs.Prelude.{◌≡◌, ◌≤◌, ◌<◌, ◌^◌, ℕ, ℤ, pos, ◌*ℤ◌, ◌-ℤ◌, Bool, false, ◌&&◌, not, is_some, List, length, Option, Some, None, Result, Ok, Err}
 use Rattle.std.specs.List.{find}
 use Rattle.stated_order.specs.First.{HoldsLower, IsFirstLowerFailure}
 use Rattle.stated_order.specs.Steps.{IsOne, Then, Through}
@@ -11,9 +11,10 @@ use Rattle.param_ids.specs.Plain.{PlainId}
 use Rattle.control_doc.specs.Plain.{PlainDatum}
 use Rattle.control_doc.specs.declared.plans.Site.{Site}
 use Rattle.neq_stack.specs.Neqs.{PlainNeq}
+use Rattle.neq_stack.specs.ByName.{entry_in}
 use Rattle.neq_stack.specs.Systems.{name_at}
 use Rattle.datum_rows.specs.Conditions.{Condition, conditions, reach}
-use Rattle.datum_rows.specs.Sites.{is_matched, coefficient_of}
+use Rattle.datum_rows.specs.Sites.{is_matched, is_of_site, axis_of, coefficient_of}
 
 -- why rows are not added: a site of which a coordinate is not there exactly once, or an interval that is too great, at a row and column
 pub data Fault : Type 0 where
@@ -73,3 +74,13 @@ IsAddition datum neq = Then (λ r. r ≡ matched datum.sites neq.names) (λ all_
 -- a datum gives one set of normal equations at most, or has one first cause, and never both
 abbrev pub OneAddition : Type 0
 OneAddition = (datum : PlainDatum) (neq : PlainNeq) → neq.table.size ≡ length neq.names → IsOne (IsAddition datum neq)
+
+-- ---- where a datum adds
+-- a name is that of a coordinate of one of the sites
+abbrev pub is_coordinate_of : List Site → PlainId → Bool
+is_coordinate_of sites id = is_some (find (is_of_site id) sites) && is_some (axis_of id.kind)
+
+-- a datum changes no interval but those at two coordinates of its sites
+abbrev pub OnlyAtSites : Type 0
+OnlyAtSites = (datum : PlainDatum) (neq after : PlainNeq) (one other : PlainId)
+    → IsAddition datum neq (Ok after) → (is_coordinate_of datum.sites one && is_coordinate_of datum.sites other) ≡ false → entry_in after one other ≡ entry_in neq one other

@@ -6,7 +6,7 @@ ghost use Rattle.control_doc.specs.Valid.{HasPositiveSigmas};
 ghost use Rattle.control_doc.specs.Views.{datum_view};
 ghost use Rattle.neq_stack.specs.ByName.{AreAtMost};
 ghost use Rattle.neq_stack.specs.Neqs.{IsSound, neq_view};
-ghost use Rattle.datum_rows.specs.Additions.{IsAddition, OneAddition};
+ghost use Rattle.datum_rows.specs.Additions.{IsAddition, OneAddition, OnlyAtSites};
 ghost use Rattle.datum_rows.specs.Answers.{IfFault};
 ghost use Rattle.datum_rows.specs.Exact.{DatumHolds, DatumExists, DatumMultiples};
 
@@ -78,11 +78,15 @@ pub fn add_datum<const N: usize>(
     Ok(())
 }
 
-/// A datum is added in one way or has one first fault, it has an exact system, and what lies in normal equations lies, with the system of
-/// the datum, in those with its rows.
+/// A datum is added in one way or has one first fault, and changes no interval but those at two coordinates of its sites. It has an exact
+/// system, and what lies in normal equations lies, with the system of the datum, in those with its rows.
 pub fn datum_holds()
     ensures one { OneAddition }
     ensures holds { DatumHolds }
     ensures exists { DatumExists }
     ensures multiples { DatumMultiples }
+    ensures elsewhere { OnlyAtSites }
 {}
+
+#[cfg(test)]
+mod tests;

@@ -1,6 +1,6 @@
 -- The fields of a line, one after another.
 use Rattle.std.proofs.Common.{◌≡◌, inl, inr, ℕ, List, Result, Ok, Err, ap, sym, subst, refl}
-use Rattle.stated_order.specs.Steps.{Then, GoesOn}
+use Rattle.stated_order.specs.Steps.{Then}
 use Rattle.stated_order.proofs.StepLaws.{then_gives, then_stops, went_on, ok_same, err_same}
 use Rattle.blanks.specs.Blanks.{end_trimmed}
 use Rattle.snx_epoch.specs.declared.Epoch.{Epoch}

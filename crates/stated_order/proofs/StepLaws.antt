@@ -1,6 +1,6 @@
 -- Steps in a stated order have one result at most, and some result where their parts have one.
-use Rattle.std.proofs.Common.{◌≡◌, ◌⊎◌, inl, inr, ◌∙◌, ◌++◌, ◌∷◌, List, [], Result, Ok, Err, sym, subst, refl, ap}
-use Rattle.stated_order.specs.Steps.{IsOne, HasOne, GoesOn, Stops, Then, Renamed, InTurn, Through}
+use Rattle.std.proofs.Common.{◌≡◌, inl, inr, ◌∙◌, ◌++◌, ◌∷◌, List, [], Result, Ok, Err, sym, subst, refl, ap}
+use Rattle.stated_order.specs.Steps.{IsOne, HasOne, GoesOn, Then, Renamed, InTurn, Through}
 
 -- a step that gives something does not refuse
 pub gives_or_refuses : {X C : Type 0} (first : Result X C → Type 0) (x : X) (c : C) → IsOne first → first (Ok x) → first (Err c) → ⊥

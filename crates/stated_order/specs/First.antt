@@ -1,5 +1,5 @@
 -- The least number with a property, and the first place at which one fails.
-use Rattle.std.specs.Prelude.{◌≡◌, ◌≤◌, ◌<◌, ℕ}
+use Rattle.std.specs.Prelude.{◌≤◌, ◌<◌, ℕ}
 
 -- h is the least number with the property
 pub record IsLeast (P : ℕ → Type 0) (h : ℕ) : Type 0 where

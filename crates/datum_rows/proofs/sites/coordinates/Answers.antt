@@ -1,11 +1,10 @@
-use Rattle.std.proofs.Common.{◌≡◌, ◌∙◌, ◌+◌, length, None, ap, sym}
-use Rattle.std.proofs.lemmas.List.{length_push}
+use Rattle.std.proofs.Common.{◌≡◌, ◌∙◌, None, ap, sym}
 use Rattle.neq_stack.specs.Neqs.{neq_view}
 use Rattle.neq_stack.specs.Systems.{name_at}
 use Rattle.datum_rows.specs.Sites.{coefficient_of}
 use Rattle.datum_rows.specs.Views.{coefficient_by, IsNearBy}
 use Rattle.datum_rows.proofs.NamedRows.{name_is}
-use Rattle.datum_rows.proofs.SiteLaws.{read_more}
+use Rattle.datum_rows.proofs.SiteLaws.{read_more, length_next}
 use Rattle.datum_rows.proofs.sites.coordinates.Goals as goal
 
 pub loop-k-preserved : goal.loop-k-preserved
@@ -17,7 +16,7 @@ loop-k-preserved g c =
     let items = c.in_ok-push.ensures.items in
     let named = name_is neq.names k c.at.result.now c.at.ensures in
     record {
-      count = ap (λ l. length l) items ∙ length_push c.loop-k.list.items c.coordinate_of.result ∙ ap (λ n. n + 1) before.count;
+      count = length_next c.loop-k.list.items c.push.new.self.items c.coordinate_of.result k before.count items;
       each = λ motion. read_more (λ i o. coefficient_by motion o ≡ coefficient_of sites neq motion (name_at neq.names i)) c.loop-k.list.items c.push.new.self.items c.coordinate_of.result None k before.count items (before.each motion)
           (c.coordinate_of.ensures.value motion ∙ ap (coefficient_of sites neq motion) (sym named));
       near = read_more (λ i o. IsNearBy o) c.loop-k.list.items c.push.new.self.items c.coordinate_of.result None k before.count items before.near c.coordinate_of.ensures.near;
