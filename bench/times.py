@@ -5,6 +5,7 @@
     bench/times.py solve [ROWS ..]      the whole program on files that bench/make_file.py writes; the default is 30, 300 and 900
     bench/times.py read [ROWS ..]       reading such files, with one value on a matrix line and with three; the default is 900
     bench/times.py combine [FILES ROWS SHARED]   a combination of networks; the default is 8 files of 300 unknowns, 210 in all
+    bench/times.py values [FILES ROWS]  the way to common a priori values, and a datum; the default is 8 files of 900 unknowns
     bench/times.py memory [FILES ROWS SHARED]    the memory of one; the default is 64 files of 900 unknowns, 30 in all
 
 It proves and builds crates/step_times and the program first, and compiles the yardsticks with g++ -O2. Each command runs five
@@ -13,7 +14,8 @@ Times are of the wall clock, in milliseconds; memory is the greatest resident se
 from which it starts. The columns are the pilot without its factor. The defects are the certificate whole, with its working
 copies, its errors and its radii. Reading is beside bench/reading.cpp, which tests nothing of what it reads. Of a combination the
 rest is what remains of the whole after reading and recovery: the sum, its solution and the writing. The memory is measured of one
-run, which may end with a refusal.
+run, which may end with a refusal. For common values and a datum, runs that end with a refusal after these steps are compared with
+runs that do not have them, beside the recovery of a file.
 """
 
 import os
@@ -169,6 +171,59 @@ def combine(program, solver, loops, reader, sizes, folder):
         print(f"  ratios: reading {t['read'] / t['reading']:.2f}, rest {t['rest'] / t['loops']:.2f}, whole {t['whole'] / yardstick:.2f}")
 
 
+# a site that no network has, after which a combination is refused
+NO_SITE = '[datum]\nsites = [["NONE", "A", "1"]]\nscale = "1"\n'
+SIGMAS = ("translation", "rotation", "scale")
+
+
+def moved(text):
+    """The text with each a priori value another in its last digits but four."""
+    head, rest = text.split("+SOLUTION/NORMAL_EQUATION_VECTOR", 1)
+    digits = re.compile(r"( m    2  \.\d{8})\d{3}")
+    return digits.sub(r"\g<1>123", head) + "+SOLUTION/NORMAL_EQUATION_VECTOR" + rest
+
+
+def least_run(solver, folder, control, line):
+    """The least milliseconds of some runs of the control, each of which is refused by this line."""
+    (folder / "tried.toml").write_text(control)
+    found = []
+    for _ in range(RUNS):
+        text, status, whole, _ = tried([solver, "combine", "tried.toml", "out.snx", "report"], folder)
+        assert status != 0 and text.startswith(f"snxcomb: {line}"), text
+        found.append(whole)
+    return min(found)
+
+
+def free_text(rows):
+    """Normal equations of stations without an element."""
+    text = subprocess.run([TOP / "bench" / "make_file.py", str(rows)], capture_output=True, text=True, check=True).stdout
+    head, rest = text.split("MATRIX L\n", 1)
+    return head + "MATRIX L\n" + rest[rest.index("-SOLUTION") :]
+
+
+def values(program, solver, sizes, folder):
+    files, rows = sizes
+    names = networks(folder, files, rows, rows)
+    control = (folder / "control.toml").read_text()
+    recover = min(summed(run([program, "combine", *names])[0])["recover"] for _ in range(RUNS)) / files
+    same = least_run(solver, folder, control + NO_SITE, "unmatched site")
+    for name in names[1:]:
+        file = pathlib.Path(name)
+        file.write_text(moved(file.read_text()))
+    other = least_run(solver, folder, control + NO_SITE, "unmatched site")
+    shift = (other - same) / (files - 1)
+    print(f"{files} files of {rows} unknowns: recovery of one {recover:.1f} ms, its way to other values {shift:.1f} ms, ratio {shift / recover:.2f}")
+
+
+def datum(program, solver, rows, folder):
+    (folder / "free.snx").write_text(free_text(rows))
+    head = '[output]\nagency = "GEN"\ncreated = "24:001:00000"\n[[file]]\nname = "free.snx"\n'
+    sites = ", ".join(f'["{k:04d}", "A", "1"]' for k in range(rows // 3))
+    bare = least_run(solver, folder, head, "pivot")
+    held = least_run(solver, folder, head + f"[datum]\nsites = [{sites}]\n" + "".join(f'{key} = "0.001"\n' for key in SIGMAS), "")
+    print(f"{rows // 3} sites: without a datum {bare:.1f} ms, with its seven rows {held:.1f} ms, refused after them")
+
+
 def memory(solver, sizes, folder):
     files, rows, shared = sizes
     networks(folder, files, rows, shared)
@@ -190,6 +245,9 @@ def main(what, sizes):
         program = build("step_times", ["table", "3", "quiet"])
         if what == "kernels":
             kernels(program, compiled(folder, "kernels"), sizes or [300, 900])
+        elif what == "values":
+            values(program, built_solver(), sizes or [8, 900], folder)
+            datum(program, built_solver(), 300, folder)
         elif what == "read":
             read(program, compiled(folder, "reading"), sizes or [900], folder)
         elif what == "combine":
