@@ -1,7 +1,5 @@
 """Common a priori values, and normal equations brought to them: part of tools/combine.py."""
 
-from fractions import Fraction
-
 import sinex
 import solve
 
@@ -73,11 +71,3 @@ def shifted_right(table, right, scales, old, new):
         if solve.size(w) > 10**35:
             raise Range(i, i)
     return found
-
-
-# ---- the exact system, apart from every word
-
-
-def moved_right(matrix, right, old, new):
-    """b - N (x1 - x0) in fractions."""
-    return [Fraction(b) - sum(n * (to - by) for n, to, by in zip(row, new, old)) for row, b in zip(matrix, right)]

@@ -1,6 +1,7 @@
 """Solves the exact system of a small combination in fractions, and looks whether a report's bounds hold it.
 
-No word of tools/combine.py is used: the numbers are those of the files, their weights, the common a priori values and the datum.
+No interval of tools/combine.py is used. Which value is a name's common one, and the coefficients of the datum's rows, it has from
+tools/apriori.py and tools/datum.py, so a wrong choice of these shows in other rows alone.
 """
 
 from fractions import Fraction
