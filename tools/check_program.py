@@ -7,7 +7,7 @@
 
 Each row of the table below is one run in a folder of its own, below a temporary folder. It says what lies there before, what is
 run, and what must come; all else in the folder must be as before. The documents of tools/documents.py and the combinations of
-tools/combinations.py are run likewise, and tools/solve.py and tools/combine.py say what must come. One line is printed for each
+tools/combinations.py are run likewise, and tools/combine.py says what must come. One line is printed for each
 row and for each group of the others, and one for each of these that has another answer; at the end 'N passed, M failed'. The
 status is 0 where none failed.
 """
@@ -280,7 +280,7 @@ def checked_rows(program, room):
 
 
 def row_of(case):
-    """The run of a document, with the answer of tools/solve.py."""
+    """The run of a document, with the answer of tools/combine.py."""
     status, text = case.answer
     before = {"in": case.text}
     if status:

@@ -143,12 +143,12 @@ def refusals():
     yield three("a bad line before a file that isn't there", control(entry("d"), entry("c")), "c:2 WrongEnd", c=b"%=SNX 2.02\n-X\n")
     yield three("a bad line after a file that isn't there", control(entry("c"), entry("b2")), "no file b2", c=b"%=SNX 2.02\n-X\n")
     yield three("a file without a priori values", control(*map(entry, "abc")), "block file:b SOLUTION/APRIORI", b=joined(whole()))
-    yield three("a file without a right side", control(*map(entry, "abc")), "unbuilt b", b=joined(whole(block("SOLUTION/APRIORI", row(1, "STAX", "ABCD", "1")))))
+    yield three("a file without a right side", control(*map(entry, "abc")), "block file:b SOLUTION/ESTIMATE", b=joined(whole(block("SOLUTION/APRIORI", row(1, "STAX", "ABCD", "1")))))
     bare_apriori = joined(whole(block("SOLUTION/APRIORI", row(1, "STAX", "ABCD", "1"))))
     yield three("normal equations without a right side", control(entry("a"), entry("b", form="neq")), "block file:b SOLUTION/NORMAL_EQUATION_VECTOR", b=bare_apriori)
     no_matrix = joined(whole(block("SOLUTION/APRIORI", row(1, "STAX", "ABCD", "1")), block("SOLUTION/NORMAL_EQUATION_VECTOR", bare(1, "STAX", "ABCD", "1"))))
     yield three("normal equations without a matrix", control(entry("a"), entry("b", form="neq")), f"block file:b {NORMAL}", b=no_matrix)
-    yield three("a solution in place of normal equations", control(entry("a"), entry("b", form="solution")), "unbuilt b")
+    yield three("a solution in place of normal equations", control(entry("a"), entry("b", form="solution")), "block file:b SOLUTION/ESTIMATE")
     yield three("a solution without a priori values", control(entry("a"), entry("b", form="solution")), "block file:b SOLUTION/APRIORI", b=joined(whole()))
     yield three("a row without its a priori value", control(*map(entry, "abc")), f"unmatched file:c STAY/ABCD/A/1/24:001:00000", c=neq({STAX: "1"}, {STAX: "1", STAY: "1"}, {(STAX, STAX): "1"}))
     yield three("a file without rows", control(*map(entry, "abc")), "empty file:b", b=joined(whole(block("SOLUTION/APRIORI", row(1, "STAX", "ABCD", "1")), block("SOLUTION/NORMAL_EQUATION_VECTOR"), block(f"{NORMAL} L"))))
@@ -309,6 +309,165 @@ def free_chances():
         yield Run(f"a free network made by chance, {number}", {**files, "control": control(*entries, rest=rest)})
 
 
+# ---- solutions and their constraints
+
+ESTIMATE, INFORMATION, CONSTRAINTS = "SOLUTION/ESTIMATE", "SOLUTION/MATRIX_ESTIMATE", "SOLUTION/MATRIX_APRIORI"
+
+
+def triangle(index, matrix, upper=False):
+    """Lines of a matrix by pairs of names."""
+    pairs = [(*sorted((index[a], index[b]), reverse=not upper), value) for (a, b), value in matrix.items()]
+    return [strip(row, column, value) for row, column, value in pairs]
+
+
+def estimated(apriori, estimates, matrix, constraints=None, deviations=None, contents=("L INFO", "L INFO"), parts=()):
+    """The text of a solution: a priori values with their deviations, estimates, their matrix, and the matrix of the constraints."""
+    known, index, deviations = numbered(apriori), numbered(estimates), deviations or {}
+    first = [row(known[name], value=value, deviation=deviations.get(name, ""), **dict(name)) for name, value in apriori.items()]
+    second = [row(index[name], value=value, deviation=".125000E+00", **dict(name)) for name, value in estimates.items()]
+    blocks = [block("SOLUTION/APRIORI", *first), block(ESTIMATE, *second)]
+    if matrix is not None:
+        blocks.append(block(f"{INFORMATION} {contents[0]}", *triangle(index, matrix, contents[0][0] == "U")))
+    if constraints is not None:
+        blocks.append(block(f"{CONSTRAINTS} {contents[1]}", *triangle(known, constraints, contents[1][0] == "U")))
+    return joined(whole(*blocks, *parts))
+
+
+def one_estimate(matrix, estimate="1.5", apriori="1", deviation="", constraint=None, **more):
+    constraints = None if constraint is None else {(STAX, STAX): constraint}
+    return estimated({STAX: apriori}, {STAX: estimate}, {(STAX, STAX): matrix}, constraints, {STAX: deviation}, **more)
+
+
+def solution(what, wants, text, keys=None, rest="", **more):
+    """One solution alone, as file a, or with other files."""
+    return Run(what, {"a": text, **more, "control": control(entry("a", **(keys or {})), *map(entry, sorted(more)), rest=rest)}, wants)
+
+
+ROW_REPORT = report_of("1.5000000000000000", "1.5000000000000000")
+FREED_REPORT = report_of("3.4999999999970000", "3.5000000000010000", "1000000000000000000E-30", "g=40 B=1 M=1 N=1")
+SIX = [named(axis, code) for code in ("ABCD", "EFGH") for axis in AXES]
+SIX_ONES = dict.fromkeys(SIX, "1")
+
+
+def six_report():
+    held = ("1.6666666666664000", "1.6666666666668000", "20000000000000000E-29")
+    free = ("1.4999999999999000", "1.5000000000001000", "0E-29")
+    names = sorted(SIX, key=lambda name: (dict(name)["kind"], dict(name)["code"]))
+    lines = []
+    for k, name in enumerate(names, 1):
+        it = dict(name)
+        numbers = held if it["code"] == "ABCD" and it["kind"] != "STAZ" else free
+        lines.append(f"{k:6} {it['kind']:6} {it['code']}  A    1 24:001:00000 m    {' '.join(numbers)}")
+    return "\n".join(["SNXCOMB BOUNDS 1", "CERT g=40 B=1 M=1 N=6", *lines, "END", ""])
+
+
+def solutions():
+    yield solution("an information matrix", ROW_REPORT, one_estimate("4"))
+    yield solution("an information matrix above its diagonal", ROW_REPORT, one_estimate("4", contents=("U INFO", "L INFO")))
+    yield Run("solve takes a solution", {"a": one_estimate("4")}, ROW_REPORT, ["solve", "a", "report"])
+    yield solution("a constraint by its deviation", FREED_REPORT, one_estimate("5", deviation=".500000E+00"), {"constraints": "sigma"})
+    yield solution("a deviation that is not removed", None, one_estimate("5", deviation=".500000E+00"))
+    yield solution("a deviation of zero is no constraint", ROW_REPORT, one_estimate("4", deviation=".000000E+00"), {"constraints": "sigma"})
+    yield solution("a constraint by its matrix", FREED_REPORT, one_estimate("5", constraint="4"))
+    yield solution("a constraint by its matrix, asked for", FREED_REPORT, one_estimate("5", constraint="4"), {"constraints": "matrix"})
+    yield solution("a constraint that stays", report_of("1.5000000000000000", "1.5000000000000000"), one_estimate("5", constraint="4"), {"constraints": "none"})
+    six = estimated(SIX_ONES, dict.fromkeys(SIX, "1.5"), {(name, name): "4" for name in SIX}, {(name, name): "1" for name in SIX[:2]})
+    yield solution("six parameters, two of them constrained", six_report(), six)
+    both = {(STAX, STAX): "5", (STAX, STAY): "1", (STAY, STAY): "6"}
+    two = {STAX: "1", STAY: "2"}
+    away = {STAY: "2.25", STAX: "1.5"}
+    yield solution("two estimates in another order", None, estimated(two, away, both))
+    yield solution("a constraint between two", None, estimated(two, away, both, {(STAX, STAX): "1", (STAX, STAY): "-.5", (STAY, STAY): "2"}))
+    yield solution("a weighted solution", None, estimated(two, away, both, {(STAX, STAX): "1", (STAX, STAY): "-.5"}), {"weight": "0.25"})
+    yield solution("deviations with a weight", None, estimated(two, away, both, deviations={STAX: ".700000E+00", STAY: ".900000E+01"}), {"constraints": "sigma", "weight": "12.5"})
+    yield solution("a negative constraint", None, one_estimate("5", constraint="-4"))
+    yield solution("estimates that are the a priori values", None, estimated(two, two, both))
+    yield solution("an a priori row without an estimate", None, estimated({**two, STAZ: "3"}, away, both))
+    yield solution("an unconstrained a priori row without an estimate", None, estimated({STAZ: "3", **two}, away, both, {(STAY, STAY): "2"}))
+    yield solution("a far estimate", None, one_estimate("4", "-1E+12", "1E+12"))
+    yield solution("scale exponents", None, estimated(two, away, both, {(STAX, STAY): "-.5"}), rest="[scale]\nSTAX = 3\nSTAY = -2\n")
+    given = estimated({STAX: "1"}, {STAX: "7"}, {(STAX, STAX): "9"}, parts=(block("SOLUTION/NORMAL_EQUATION_VECTOR", bare(1, "STAX", "ABCD", "2")), block(f"{NORMAL} L", strip(1, 1, "4"))))
+    yield solution("normal equations before a solution", ROW_REPORT, given)
+    yield solution("a solution beside normal equations", None, given, {"form": "solution"})
+    yield solution("normal equations keep their constraints", ROW_REPORT, given, {"form": "neq", "constraints": "matrix"})
+    yield solution("a solution and normal equations", None, one_estimate("5", constraint="4"), b=one("4", "2"), c=one("3", "1", "1.3"))
+    yield solution("two solutions at other a priori values", None, one_estimate("5", constraint="4"), b=one_estimate("3", "1.75", "1.3"), rest='[run]\nreference = "b"\n')
+    free = estimated({name: v for code, texts in STATIONS.items() for name, v in zip((named(axis, code) for axis in AXES), texts)}, {name: v + ".0125" for code, texts in STATIONS.items() for name, v in zip((named(axis, code) for axis in AXES), texts)}, {(name, name): "1000001" for name in (named(axis, code) for code in STATIONS for axis in AXES)}, {(name, name): "1000000" for name in (named(axis, code) for code in STATIONS for axis in AXES)})
+    yield solution("a loose solution with a free network and a datum", None, free, b=free_network(), rest=datum(**ALL))
+
+
+# ---- solutions that are refused
+
+
+def refused_solutions():
+    two = {STAX: "1", STAY: "2"}
+    both = {(STAX, STAX): "5", (STAX, STAY): "1", (STAY, STAY): "6"}
+    stay = "STAY/ABCD/A/1/24:001:00000"
+    yield solution("no estimates", "block file:a SOLUTION/ESTIMATE", one("4", "2"), {"form": "solution"})
+    yield solution("no matrix of the estimates", "block file:a SOLUTION/MATRIX_ESTIMATE", estimated(two, two, None, {}))
+    yield solution("no matrix of the constraints", "block file:a SOLUTION/MATRIX_APRIORI", estimated(two, two, both), {"constraints": "matrix"})
+    yield solution("no matrix of the estimates, nor of the constraints", "block file:a SOLUTION/MATRIX_ESTIMATE", estimated(two, two, None), {"constraints": "matrix"})
+    for content in ("COVA", "CORR"):
+        yield solution(f"{content} of the estimates", "unbuilt a", estimated(two, two, both, contents=(f"L {content}", "")))
+        yield solution(f"{content} of the constraints", "unbuilt a", estimated(two, two, both, {}, contents=("L INFO", f"L {content}")))
+        yield solution(f"{content} of constraints that stay", None, estimated(two, two, both, {}, contents=("L INFO", f"L {content}")), {"constraints": "none"})
+        yield solution(f"{content} of the estimates without the constraints", "block file:a SOLUTION/MATRIX_APRIORI", estimated(two, two, both, contents=(f"L {content}", "")), {"constraints": "matrix"})
+    yield solution("COVA before an unmatched row", "unbuilt a", estimated({STAX: "1"}, two, both, contents=("L COVA", "")))
+    yield solution("an estimate without an a priori value", f"unmatched file:a {stay}", estimated({STAX: "1"}, two, both))
+    yield solution("the first of two estimates", f"unmatched file:a {stay}", estimated({STAZ: "1"}, {STAY: "1", STAX: "2"}, {}))
+    yield solution("a constrained row without an estimate", f"unmatched file:a {stay}", estimated(two, {STAX: "1"}, {(STAX, STAX): "5"}, {(STAX, STAY): "1"}))
+    yield solution("a row with a deviation without an estimate", f"unmatched file:a {stay}", estimated(two, {STAX: "1"}, {(STAX, STAX): "5"}, deviations={STAY: ".100000E+01"}), {"constraints": "sigma"})
+    yield solution("an estimate before a constrained row", "unmatched file:a STAZ/ABCD/A/1/24:001:00000", estimated(two, {STAZ: "1"}, {}, {(STAY, STAY): "1"}))
+    yield solution("the first constrained row", f"unmatched file:a {stay}", estimated({STAY: "1", STAX: "2", STAZ: "3"}, {STAZ: "1"}, {}, {(STAX, STAY): "1"}))
+    yield solution("constraints without an estimate at all", f"unmatched file:a {ONE_NAME}", estimated({STAX: "1"}, {}, {}, {(STAX, STAX): "1"}))
+    yield solution("no estimate", "empty file:a", estimated(two, {}, {}))
+    yield solution("an information matrix past its range", f"range file:a {BOTH}", one_estimate("4"), {"weight": "1E+17"})
+    yield solution("a constraint past its range", f"range file:a {BOTH}", one_estimate(".5", constraint="1E+17"))
+    yield solution("a deviation too small", f"range file:a {BOTH}", one_estimate(".5", deviation="1E-11"), {"constraints": "sigma"})
+    yield solution("a deviation too small for any word", f"range file:a {BOTH}", one_estimate(".5", deviation="1E-99"), {"constraints": "sigma"})
+    yield solution("a deviation and a weight", f"range file:a {BOTH}", one_estimate("5E-11", deviation="1E-7"), {"constraints": "sigma", "weight": "1E+10"})
+    yield solution("digits of a weight before its tens", f"range file:a {BOTH}", one_estimate("5", deviation="1E-9"), {"constraints": "sigma", "weight": "1.23456789E-2"})
+    yield solution("the information matrix before the constraints", f"range file:a {stay} {stay}", estimated(two, two, {(STAY, STAY): "1E+17"}, {(STAX, STAX): "1E+17"}))
+    yield solution("the constraints before the right side", f"range file:a {stay} {stay}", estimated({STAX: "1E+12", STAY: "1"}, {STAX: "-1E+12", STAY: "1"}, {(STAX, STAX): "4E+15", (STAY, STAY): "1"}, {(STAY, STAY): "1E+17"}))
+    yield solution("a right side past its range", f"range file:a {BOTH}", estimated({STAX: "1E+12", STAY: "1"}, {STAX: "-1E+12", STAY: "1"}, {(STAX, STAX): "4E+15", (STAY, STAY): "1"}))
+    yield solution("a right side whose product is past its range", f"range file:a {BOTH}", one_estimate("4E+09", "5E+06", "-5E+06"))
+    yield solution("constraints that leave nothing", f"pivot stack {ONE_NAME}", one_estimate("4", constraint="4"))
+
+
+# ---- solutions made by chance: with constraints of both kinds, beside normal equations
+
+
+def chance_solutions():
+    rng = random.Random(20261202)
+    for number in range(28):
+        codes = rng.sample(["GRAZ", "WTZR", "ZIMM", "ONSA"], rng.randint(1, 3))
+        names = [named(kind, code) for code in codes for kind in rng.sample(AXES, rng.randint(1, 3))]
+        base = {name: rng.randint(-6 * 10**9, 6 * 10**9) for name in names}
+        files, entries = {}, []
+        for k in range(rng.randint(1, 4)):
+            mine = rng.sample(names, rng.randint(1, len(names)))
+            values = {name: f"{base[name] + rng.randint(-500, 500)}E-03" for name in mine}
+            more = {}
+            if rng.random() < 0.3:
+                files[f"f{k}"] = chance_file(rng, mine, values, 0)
+            else:
+                estimates = {name: f"{base[name] + rng.randint(-500, 500)}.{rng.randint(0, 999):03}E-03" for name in rng.sample(mine, len(mine))}
+                matrix = {(name, name): f"{rng.randint(3 * 10**5, 10**7)}.{rng.randint(0, 999):03}" for name in mine}
+                for a, name in enumerate(mine):
+                    matrix |= {(name, other): f"{rng.randint(-10**4, 10**4)}.5" for other in mine[:a] if rng.random() < 0.7}
+                constraints = {pair: f"{rng.randint(1, 10**4)}.25" for pair in matrix if rng.random() < 0.4} if rng.random() < 0.6 else None
+                deviations = {name: rng.choice([".100000E-01", ".500000E-02", ".123457E+00", "1.00000E+02", ""]) for name in mine}
+                files[f"f{k}"] = estimated(values, estimates, matrix, constraints, deviations, contents=(rng.choice(["L INFO", "U INFO"]), rng.choice(["L INFO", "U INFO"])))
+                more["constraints"] = rng.choice(["auto", "sigma", "none", "matrix" if constraints is not None else "auto"])
+            if rng.random() < 0.5:
+                more["weight"] = rng.choice(["0.5", "2", "1.25", "12.3456789", "1E-3"])
+            entries.append(entry(f"f{k}", **more))
+        rest = f'[run]\nreference = "{rng.choice(list(files))}"\n' if rng.random() < 0.4 else ""
+        if number % 3 == 0:
+            rest += f"[scale]\nSTAX = {rng.randint(-4, 6)}\nSTAZ = {rng.randint(-4, 6)}\n"
+        yield Run(f"solutions made by chance, {number}", {**files, "control": control(*entries, rest=rest)})
+
+
 def many(prefix, count):
     names = [named(code=f"{prefix}{k:03}") for k in range(count)]
     return neq(dict.fromkeys(names, "1"), dict.fromkeys(names, "1"), {(name, name): "4" for name in names})
@@ -361,6 +520,8 @@ def examples():
     yield Run("the example", files, words=["combine", "control.toml", "combined.snx", "report.txt"])
     yield Run("one of its files", files, words=["solve", "north.snx", "report.txt"])
     free = {path.name: path.read_bytes() for path in sorted((EXAMPLES / "free-network").iterdir())}
+    published = {path.name: path.read_bytes() for path in sorted((EXAMPLES / "solutions").iterdir())}
+    yield Run("the example of solutions", published, words=["combine", "control.toml", "combined.snx", "report.txt"])
     yield Run("the example of a free network", free, words=["combine", "control.toml", "combined.snx", "report.txt"])
     yield Run("the example of a free network without a datum", free, "pivot stack STAY/ZIMM/A/1/24:003:43200", words=["combine", "no-datum.toml", "combined.snx", "report.txt"])
 
@@ -376,6 +537,9 @@ GROUPS = {
     "common a priori values": values,
     "datum rows": data,
     "free networks made by chance": free_chances,
+    "solutions": solutions,
+    "solutions that are refused": refused_solutions,
+    "solutions made by chance": chance_solutions,
     "many names": sizes,
     "combinations made by chance": chances,
     "examples of combinations": examples,

@@ -1,18 +1,18 @@
 #!/usr/bin/env python3
 """Computes what `snxcomb combine` answers, apart from the program.
 
-    combine.py CONTROL    writes the report of a combination, or the line of its refusal; the files are taken from the folder
+    combine.py CONTROL       writes the report of a combination, or the line of its refusal; the files are taken from the folder
+    combine.py solve FILE    the same of one file
 
 It is written from the rules, not from the program's code: tools/control.py reads the control file, tools/sinex.py the files, and
 tools/solve.py has the rules from a stack to its report.
 """
 
 import sys
-from fractions import Fraction
-
 import apriori
 import control
 import datum
+import recovery
 import sinex
 import solve
 
@@ -92,50 +92,22 @@ class Part:
         self.known.update(other.known)
 
 
-def needed(plan, document):
-    """Refuses a file that lacks a block of normal equations."""
-    place = f"file:{plan.name}"
-    if sinex.APRIORI not in document:
-        raise Refusal(3, f"block {place} {sinex.APRIORI.decode()}")
-    lacking = [block for block in (sinex.VECTOR, sinex.NORMAL_MATRIX) if block not in document]
-    if plan.form == "solution" or (plan.form == "auto" and lacking):
-        raise Refusal(3, f"unbuilt {plan.name}")
-    if lacking:
-        raise Refusal(3, f"block {place} {lacking[0].decode()}")
-
-
-def weighted(plan, value, power, where):
-    """The word of a number times the file's weight, or the refusal of its range."""
-    w = solve.word(plan.weight * value * Fraction(10) ** power)
-    if solve.size(w) > 10**34:
-        names = " ".join(name.text() for name in where)
-        raise Refusal(6, f"range file:{plan.name} {names}")
-    return w
-
-
 def recover(plan, document, scales):
     """The normal equations of a file."""
-    needed(plan, document)
-    rows = document[sinex.VECTOR].rows
-    apriori = document[sinex.APRIORI].by_name
-    for row in rows:
-        if row.name not in apriori:
-            raise Refusal(3, f"unmatched file:{plan.name} {row.name.text()}")
-    if not rows:
-        raise Refusal(3, f"empty file:{plan.name}")
-    vector = {row.name: row.value for row in rows}
-    elements = document[sinex.NORMAL_MATRIX].elements
-    names = sorted(vector)
-    t = {name: scales.get(name.kind, 0) for name in names}
-    part = Part(known={name: (apriori[name].value, apriori[name].unit, t[name]) for name in names})
-    for i, row in enumerate(names):
-        for column in names[: i + 1]:
-            value = elements.get((row, column), 0)
-            if value:
-                part.table[row, column] = part.table[column, row] = weighted(plan, value, 18 - t[row] - t[column], (row, column))
-    for name in names:
-        part.right[name] = weighted(plan, vector[name], 18 - t[name], (name, name))
-    return part
+    place = f"file:{plan.name}"
+    try:
+        known, table, right = recovery.recover(plan, document, scales)
+    except recovery.Missing as missing:
+        raise Refusal(3, f"block {place} {missing.args[0]}") from None
+    except recovery.Unbuilt:
+        raise Refusal(3, f"unbuilt {plan.name}") from None
+    except recovery.Unmatched as unmatched:
+        raise Refusal(3, f"unmatched {place} {unmatched.args[0].text()}") from None
+    except recovery.Empty:
+        raise Refusal(3, f"empty {place}") from None
+    except recovery.Range as passed:
+        raise Refusal(6, f"range {place} {' '.join(name.text() for name in passed.args)}") from None
+    return Part(table, right, known)
 
 
 def shift(plan, part, values):
@@ -198,7 +170,11 @@ def report_of(stack):
     try:
         return solve.report(stack)
     except solve.Refused as refusal:
-        raise Refusal(6, solve.stacked("", refusal, stack.names).removeprefix("snxcomb: ").rstrip("\n")) from None
+        cause, *places = refusal.args
+        texts = [stack.names[places[0]].text(), *map(str, places[1:])]
+        if cause == "range":
+            texts[1] = stack.names[places[1]].text()
+        raise Refusal(6, " ".join([cause, "stack", *texts])) from None
 
 
 def combined(found, files):
@@ -230,17 +206,36 @@ def verdict(words, files):
         return refusal.status, f"snxcomb: {refusal.line}\n", {}
 
 
+def solved(file, text):
+    """The status, and the report of a text or the line of its refusal."""
+    status, line, made = verdict(["solve", file, "report"], {file: text})
+    return status, made.get("report", line)
+
+
+def files_in(names):
+    """The bytes of those files that are there."""
+    found = {}
+    for name in names:
+        try:
+            with open(name, "rb") as file:
+                found[name] = file.read()
+        except OSError:
+            pass
+    return found
+
+
 def main():
-    with open(sys.argv[1], "rb") as file:
-        files = {sys.argv[1]: file.read()}
-    try:
-        for plan in control.read_control(files[sys.argv[1]]).files:
-            with open(plan.name, "rb") as file:
-                files[plan.name] = file.read()
-    except (control.ControlFault, OSError):
-        pass
-    status, line, made = verdict(["combine", sys.argv[1], "out", "report"], files)
-    sys.stdout.write(made.get("report", line))
+    if sys.argv[1] == "solve":
+        status, said = solved(sys.argv[2], files_in(sys.argv[2:])[sys.argv[2]])
+    else:
+        files = files_in(sys.argv[1:])
+        try:
+            files |= files_in(plan.name for plan in control.read_control(files[sys.argv[1]]).files)
+        except control.ControlFault:
+            pass
+        status, line, made = verdict(["combine", sys.argv[1], "out", "report"], files)
+        said = made.get("report", line)
+    sys.stdout.write(said)
     return status
 
 

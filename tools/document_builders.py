@@ -4,7 +4,7 @@ from dataclasses import dataclass
 from functools import cached_property
 from pathlib import Path
 
-import solve
+import combine
 
 EXAMPLES = Path(__file__).resolve().parent.parent / "examples"
 ONE_LINES = (EXAMPLES / "one-station.snx").read_text().splitlines()
@@ -21,13 +21,13 @@ NORMAL = "SOLUTION/NORMAL_EQUATION_MATRIX"
 class Case:
     what: str
     text: bytes
-    # a report, or the text of a refusal after 'snxcomb: '; or nothing, where tools/solve.py alone says what comes
+    # a report, or the text of a refusal after 'snxcomb: '; or nothing, where tools/combine.py alone says what comes
     wants: str | None = None
 
     @cached_property
     def answer(self):
-        """The status, and the report or the line said, by tools/solve.py."""
-        return solve.verdict("in", self.text)
+        """The status, and the report or the line said, by tools/combine.py."""
+        return combine.solved("in", self.text)
 
     def is_as_wanted(self):
         said = self.answer[1]
@@ -106,7 +106,7 @@ PAIR_APRIORI = block("SOLUTION/APRIORI", row(1, "STAX", "ABCD", "1"), row(2, "ST
 PAIR_VECTOR = block("SOLUTION/NORMAL_EQUATION_VECTOR", bare(1, "STAX", "ABCD", "2"), bare(2, "STAY", "ABCD", "1"))
 PAIR_MATRIX = block(f"{NORMAL} L", strip(1, 1, "4"), strip(2, 1, "1", "5"))
 PAIR_LINES = whole(PAIR_APRIORI, PAIR_VECTOR, PAIR_MATRIX)
-PAIR_REPORT = solve.verdict("in", joined(PAIR_LINES))[1]
+PAIR_REPORT = combine.solved("in", joined(PAIR_LINES))[1]
 
 
 def pair(what, changes, wants):

@@ -1,12 +1,12 @@
 #!/usr/bin/env python3
 """SINEX documents with the answers of `snxcomb solve in report` to them.
 
-    documents.py               checks that tools/solve.py answers each document as its row says
+    documents.py               checks that tools/combine.py answers each document as its row says
     documents.py GROUP NAME    writes the document of this name to standard output
 
 The documents stand in worked_documents.py and made_documents.py. A document is made by code from a small one: lines are
 replaced, texts are put into columns. What a document wants is the text of the refusal after 'snxcomb: ', or a report, each
-worked by hand; or nothing, and then tools/solve.py alone says what comes.
+worked by hand; or nothing, and then tools/combine.py alone says what comes.
 tools/check_program.py runs the built program over all of them.
 """
 

@@ -1,39 +1,34 @@
 """Solves the exact system of a small combination in fractions, and looks whether a report's bounds hold it.
 
-No interval of tools/combine.py is used. Which value is a name's common one, and the coefficients of the datum's rows, it has from
-tools/apriori.py and tools/datum.py, so a wrong choice of these shows in other rows alone.
+No interval of tools/combine.py is used. Which value is a name's common one, which blocks of a file count, and the coefficients of
+the datum's rows, it has from tools/apriori.py, tools/recovery.py and tools/datum.py, so a wrong choice of these shows in other rows
+alone.
 """
 
 from fractions import Fraction
 
 import apriori
+import combine
 import control
 import datum
-import sinex
-import combine
+import recovery
 
 
 def summed(files, found):
     """The names in order, their common values, and the matrix and the right side of all files with the datum's rows."""
     inputs = combine.read_inputs(files, found.files)
     values = apriori.common(inputs, found.reference)
-    names = sorted({row.name for _, document in inputs for row in document[sinex.VECTOR].rows})
+    systems = [recovery.exact(plan, document) for plan, document in inputs]
+    names = sorted({name for known, _, _ in systems for name in known})
     place = {name: i for i, name in enumerate(names)}
     matrix = [[Fraction(0)] * len(names) for _ in names]
     right = [Fraction(0)] * len(names)
-    for plan, document in inputs:
-        rows = document[sinex.VECTOR].rows
-        known = document[sinex.APRIORI].by_name
-        elements = {}
-        for (row, column), value in document[sinex.NORMAL_MATRIX].elements.items():
-            elements[row, column] = elements[column, row] = value * plan.weight
-        for row in rows:
-            moved = row.value * plan.weight
-            for other in rows:
-                element = elements.get((row.name, other.name), Fraction(0))
-                moved -= element * (values[other.name] - known[other.name].value)
-                matrix[place[row.name]][place[other.name]] += element
-            right[place[row.name]] += moved
+    for known, elements, vector in systems:
+        for name, value in vector.items():
+            right[place[name]] += value
+        for (row, column), element in elements.items():
+            right[place[row]] -= element * (values[column] - known[column])
+            matrix[place[row]][place[column]] += element
     common = [values[name] for name in names]
     if found.datum:
         for (i, j), value in datum.exact_matrix(names, common, found.datum).items():

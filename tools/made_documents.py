@@ -1,9 +1,9 @@
-"""SINEX documents that are made from a few by a fixed sequence of numbers; tools/solve.py alone says what comes."""
+"""SINEX documents that are made from a few by a fixed sequence of numbers; tools/combine.py alone says what comes."""
 
 import sys
 from pathlib import Path
 
-import solve
+import combine
 from document_builders import Case, EXAMPLES, NORMAL, ONE_LINES, after, bare, block, changed, joined, network, one, put, row, strip, whole
 
 sys.path.append(str(Path(__file__).resolve().parent.parent / "bench"))
@@ -106,7 +106,7 @@ def bytes_of_rows():
 def dense():
     """The files of bench/make_file.py: as many rows in four forms have one report."""
     for rows in (1, 2, 6, 20):
-        report = solve.verdict("in", make_file.single(rows).encode())[1]
+        report = combine.solved("in", make_file.single(rows).encode())[1]
         for values in (1, 3):
             for triangle in ("L", "U"):
                 yield Case(f"{rows} rows, {values} values a line, {triangle}", make_file.single(rows, values, triangle).encode(), report)

@@ -208,7 +208,7 @@ class Matrix:
         demand(ROWS_OF[block] in document, "MissingBlock")
         demand(len(more) == (1 if block == NORMAL_MATRIX else 2) and more[0] in (b"L", b"U"), "Field")
         demand(all(content in (b"COVA", b"CORR", b"INFO") for content in more[1:]), "Field")
-        self.triangle = more[0]
+        self.triangle, self.content = more[0], more[-1]
         self.by_index = document[ROWS_OF[block]].by_index
         self.elements = {}
 

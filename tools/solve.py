@@ -1,8 +1,7 @@
 #!/usr/bin/env python3
-"""Computes what `snxcomb solve` answers, apart from the program, for any file.
+"""The rules from a stack to its report, apart from the program: part of tools/combine.py.
 
-    solve.py FILE         writes the report of a SINEX file, or the line of its refusal
-    solve.py table NAME   writes what pilot, start vector and certificate give for a worked table
+    solve.py NAME   writes what pilot, start vector and certificate give for a worked table
 
 Everything is exact, in Python's whole numbers and fractions, and written from the rules, not from the program's code. A word
 is a pair (lo, hi) of whole numbers. Sums pass over zeros, so that a sparse matrix of 1,000 rows takes seconds.
@@ -72,39 +71,6 @@ def least(passes):
 def middle(w):
     return (w[0] + w[1]) // 2
 
-
-# ---- from a document to its stack
-
-SCALES = {b"RS_RA ": 6, b"RS_DE ": 6}
-
-
-class Stack:
-    """The unknowns of a document in the order of their names, with the table and the right side that stand for them."""
-
-    def __init__(self, document):
-        vector = {row.name: row.value for row in document[sinex.VECTOR].rows}
-        apriori = document[sinex.APRIORI].by_name
-        self.names = sorted(vector)
-        self.units = [apriori[name].unit for name in self.names]
-        self.x0 = [apriori[name].value for name in self.names]
-        self.scales = [SCALES.get(name.kind, 0) for name in self.names]
-        place = {name: i for i, name in enumerate(self.names)}
-        n = len(self.names)
-        self.table = [[(0, 0)] * n for _ in range(n)]
-        for (row, column), value in document[sinex.NORMAL_MATRIX].elements.items():
-            i, j = place[row], place[column]
-            self.table[i][j] = word(value * Fraction(10) ** (18 - self.scales[i] - self.scales[j]))
-        self.right = [word(vector[name] * Fraction(10) ** (18 - t)) for name, t in zip(self.names, self.scales)]
-
-    def test(self):
-        """Refuses the first word that passes its bound."""
-        for i, row in enumerate(self.table):
-            for j in range(i + 1):
-                if size(row[j]) > 10**34:
-                    raise Refused("words", i, j)
-        for i, w in enumerate(self.right):
-            if size(w) > 10**34:
-                raise Refused("words", i, i)
 
 
 # ---- the working table
@@ -311,40 +277,6 @@ def report(stack):
     return "\n".join(lines + ["END", ""])
 
 
-def stacked(file, refusal, names):
-    """The line of a refusal of a stack's numbers."""
-    cause, *numbers = refusal.args
-    if cause in ("words", "range"):
-        place = f"file:{file}" if cause == "words" else "stack"
-        return f"snxcomb: range {place} {names[numbers[0]].text()} {names[numbers[1]].text()}\n"
-    rest = "".join(f" {v}" for v in numbers[1:])
-    return f"snxcomb: {cause} stack {names[numbers[0]].text()}{rest}\n"
-
-
-def verdict(file, text):
-    """The status, and the report of the text of this file or the line of its refusal."""
-    try:
-        document = sinex.read_document(text)
-    except sinex.LineFault as fault:
-        return 3, f"snxcomb: {file}:{fault.line} {fault.cause}\n"
-    if sinex.APRIORI not in document:
-        return 3, f"snxcomb: block file:{file} {sinex.APRIORI.decode()}\n"
-    if sinex.VECTOR not in document or sinex.NORMAL_MATRIX not in document:
-        return 3, f"snxcomb: unbuilt {file}\n"
-    rows = document[sinex.VECTOR].rows
-    for row in rows:
-        if row.name not in document[sinex.APRIORI].by_name:
-            return 3, f"snxcomb: unmatched file:{file} {row.name.text()}\n"
-    if not rows:
-        return 3, f"snxcomb: empty file:{file}\n"
-    stack = Stack(document)
-    try:
-        stack.test()
-        return 0, report(stack)
-    except Refused as refusal:
-        return 6, stacked(file, refusal, stack.names)
-
-
 # ---- worked tables: stack words and right sides
 
 
@@ -405,8 +337,4 @@ def show(name):
 
 
 if __name__ == "__main__":
-    if sys.argv[1] == "table":
-        show(sys.argv[2])
-    else:
-        with open(sys.argv[1], "rb") as file:
-            sys.stdout.write(verdict(sys.argv[1], file.read())[1])
+    show(sys.argv[1])

@@ -573,13 +573,13 @@ def sites():
 
 def answers():
     yield Case("no a priori values", joined(whole(PAIR_VECTOR, PAIR_MATRIX)), "block file:in SOLUTION/APRIORI")
-    yield Case("a block of no row", joined(whole(block("SOLUTION/APRIORI"))), "unbuilt in")
-    yield Case("a priori values alone", joined(whole(PAIR_APRIORI)), "unbuilt in")
-    yield Case("no matrix", joined(whole(PAIR_APRIORI, PAIR_VECTOR)), "unbuilt in")
+    yield Case("a block of no row", joined(whole(block("SOLUTION/APRIORI"))), "block file:in SOLUTION/ESTIMATE")
+    yield Case("a priori values alone", joined(whole(PAIR_APRIORI)), "block file:in SOLUTION/ESTIMATE")
+    yield Case("no matrix", joined(whole(PAIR_APRIORI, PAIR_VECTOR)), "block file:in SOLUTION/ESTIMATE")
     yield Case(
         "no matrix, and another name",
         joined(whole(PAIR_APRIORI, block("SOLUTION/NORMAL_EQUATION_VECTOR", bare(1, "STAZ", "ABCD", "1")))),
-        "unbuilt in",
+        "block file:in SOLUTION/ESTIMATE",
     )
     empty = block("SOLUTION/NORMAL_EQUATION_VECTOR"), block(f"{NORMAL} U")
     yield Case("no row at all", joined(whole(PAIR_APRIORI, *empty)), "empty file:in")
