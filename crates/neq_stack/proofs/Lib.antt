@@ -12,6 +12,7 @@ pub mod GrowLaws
 pub mod AtMostLaws
 pub mod MoveLaws
 pub mod Alone
+pub mod MeaningLaws
 pub mod HoldLaws
 pub mod TableLaws
 pub mod SomeLaws

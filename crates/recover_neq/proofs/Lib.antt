@@ -1,12 +1,4 @@
 pub mod Alone
-pub mod CellLaws
-pub mod ColumnLaws
-pub mod EntryLaws
 pub mod LawExact
-pub mod NameLaws
-pub mod NeqLaws
-pub mod ParameterLaws
-pub mod RankLaws
+pub mod NamedLaws
 pub mod RecoverLaws
-pub mod ShownLaws
-pub mod WeightLaws

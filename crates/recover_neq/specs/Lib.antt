@@ -1,4 +1,3 @@
 pub mod Blocks
 pub mod Recovery
 pub mod Exact
-pub mod Shown

@@ -1,3 +1,4 @@
+pub mod Deviations
 pub mod Digits
 pub mod Chain
 pub mod Alone

@@ -1,13 +1,10 @@
 -- What the rows of a block keep.
-use Rattle.std.proofs.Common.{◌≡◌, ◌∙◌, ◌++◌, ◌∷◌, ◌⊎◌, inl, inr, ℕ, suc, if◌then◌else◌, ◌+◌, ◌-◌, ◌*◌, ◌<◌, ◌≤◌, ◌^◌, Bool, true, false, List, [], length, Option, Some, None, Ok, sym, ap, refl, subst, arith}
-use Rattle.std.specs.List.{list_all, slice_get}
-use Rattle.std.specs.Char.{is_ascii_digit}
+use Rattle.std.proofs.Common.{◌≡◌, ◌∙◌, ◌++◌, ◌∷◌, ◌⊎◌, inl, inr, ℕ, if◌then◌else◌, ◌<◌, ◌^◌, Bool, true, false, List, [], length, Option, Some, None, Ok, sym, ap, refl, subst, arith}
+use Rattle.std.specs.List.{slice_get}
 use Rattle.std.proofs.lemmas.Bool.{leb-true, and_parts}
 use Rattle.std.proofs.lemmas.List.{length_push, get_or_push, get_or_append_left}
 use Rattle.std.proofs.lemmas.List.Elements.{All-push}
 use Rattle.std.proofs.lemmas.Option.{slice_get_within, slice_get-get_or, get_or_from_slice_get}
-use Rattle.std.proofs.lemmas.Nat.{pow-add}
-use Rattle.std.proofs.Math.Nat.{mul-le-mul_right}
 use Rattle.std.proofs.Math.Decide.{dec_lt}
 use Rattle.stated_order.proofs.StepLaws.{went_on, ok_same}
 use Rattle.whole_numbers.proofs.Powers.{ten_le}
@@ -15,27 +12,17 @@ use Rattle.decimal_e.specs.Digits.{number}
 use Rattle.decimal_e.specs.Decimals.{Decimal}
 use Rattle.decimal_e.specs.Fractions.{IsAtMost}
 use Rattle.snx_lines.specs.Lines.{PlainLine, columns}
-use Rattle.snx_rows.proofs.Digits.{digit_below}
+use Rattle.snx_rows.proofs.Deviations.{IsShort, deviation_short}
+use Rattle.snx_rows.proofs.Digits.{number_below, are_digits}
 use Rattle.snx_rows.specs.Indices.{is_index, index_of, index_on}
 use Rattle.snx_rows.specs.Rows.{IsRead, IsSized, or_cause}
-use Rattle.snx_rows.specs.Blocks.{StandsOn, IsNextRow, IsIndex, AreDistinct, AreSized, AreSound}
+use Rattle.snx_rows.specs.Blocks.{StandsOn, IsNextRow, IsIndex, AreDistinct, AreSized, HasShortDeviation, AreSound}
 use Rattle.snx_rows.specs.declared.causes.Cause.TheVariants as causes
 use Rattle.snx_rows.specs.declared.rows.Shape.{Shape}
 use Rattle.snx_rows.specs.declared.rows.Shape.TheVariants.{Value, Vector}
 use Rattle.snx_rows.specs.declared.rows.Row.{Row}
 
 -- ---- indices
-first_digit : (n d m : ℕ) → d ≤ 9 → m < 10 ^ n → d * 10 ^ n + m < 10 ^ suc n
-first_digit n d m h l =
-    let e : 10 ^ suc n ≡ 10 ^ (n + 1) = ap (λ x. 10 ^ x) (omega arith) in
-    omega (arith, e, pow-add 10 n 1, mul-le-mul_right (10 ^ n) h)
-
-number_below : (text : List ℕ) → list_all is_ascii_digit text ≡ true → number text < 10 ^ length text
-number_below [] all = omega arith
-number_below (b ∷ bs) all =
-    let p = and_parts (is_ascii_digit b) (list_all is_ascii_digit bs) all in
-    first_digit (length bs) (b - 48) (number bs) (digit_below b p.0) (number_below bs p.1)
-
 some_where : (b : Bool) (n m : ℕ) → (if b then Some n else None) ≡ Some m → (b ≡ true) × (n ≡ m)
 some_where true n m h = (refl, cc)
 some_where false n m h = cc
@@ -46,7 +33,7 @@ index_is text index h =
     let some = and_parts _ _ w.0 in
     let digits = and_parts _ _ some.0 in
     let most = ten_le (length text) 5 (leb-true _ _ digits.0) in
-    let below = number_below text digits.1 in
+    let below = number_below text (are_digits text digits.1) in
     let first = leb-true _ _ some.1 in
     (omega (arith, first, w.1), omega (arith, below, most, w.1))
 
@@ -55,7 +42,7 @@ given_index (Some x) index h = cc
 given_index None index h = cc
 
 -- ---- what a line says
-read_says : (shape : Shape) (line : PlainLine) (row : Row) → IsRead shape line (Ok row) → (index_on line.text ≡ Some row.index) × ((value : Decimal) × IsSized shape value (Ok row.value))
+read_says : (shape : Shape) (line : PlainLine) (row : Row) → IsRead shape line (Ok row) → (index_on line.text ≡ Some row.index) × HasShortDeviation row × ((value : Decimal) × IsSized shape value (Ok row.value))
 read_says shape line row h =
     let index = went_on _ _ row h in
     let name = went_on _ _ row index.onward in
@@ -65,8 +52,10 @@ read_says shape line row h =
     let deviation = went_on _ _ row sized.onward in
     let same = ok_same row _ deviation.onward in
     let its_index : row.index ≡ index.gives = ap (λ (r : Row). r.index) same in
-    let its_value : row.value ≡ sized.gives = ap (λ (r : Row). r.value) same in (
+    let its_value : row.value ≡ sized.gives = ap (λ (r : Row). r.value) same in
+    let its_deviation : row.dev ≡ deviation.gives = ap (λ (r : Row). r.dev) same in (
       given_index (index_on line.text) index.gives index.given ∙ ap Some (sym its_index),
+      subst IsShort (sym its_deviation) (deviation_short shape line.text deviation.gives deviation.given),
       (value.gives, subst (λ (d : Decimal). IsSized shape value.gives (Ok d)) (sym its_value) sized.given),
     )
 
@@ -111,7 +100,8 @@ module _ (shape : Shape) (rows : List Row) (row : Row) (sound : AreSound shape r
         indexed = All-push (λ (r : Row). IsIndex r.index) rows row sound.indexed (index_is (columns line.text 2 6) row.index says.0);
         indices = distinct_more (λ r. r.index) rows row (λ i other a same. new (i, other, slice_get_within rows i other a, get_or_from_slice_get rows i other other a, inl same)) sound.indices;
         names = distinct_more (λ r. r.id) rows row (λ i other a same. new (i, other, slice_get_within rows i other a, get_or_from_slice_get rows i other other a, inr same)) sound.names;
-        sized = sized_more shape rows row says.1.0 sound.sized says.1.1;
+        sized = sized_more shape rows row says.2.0 sound.sized says.2.1;
+        deviations = All-push HasShortDeviation rows row sound.deviations says.1;
       }
 
   -- what comes next keeps it

@@ -1,6 +1,6 @@
 -- The rows of a whole block: SOLUTION/ESTIMATE, SOLUTION/APRIORI or SOLUTION/NORMAL_EQUATION_VECTOR (SINEX 2.02 format
 -- description). That a block has at most 1,000 rows is this program's own.
-use Rattle.std.specs.Prelude.{◌≡◌, ◌≤◌, ◌<◌, ◌^◌, ◌⊎◌, ℕ, List, [], length, Some, Result, Ok, Err, All, slice_get}
+use Rattle.std.specs.Prelude.{◌≡◌, ◌≤◌, ◌<◌, ◌^◌, ◌⊎◌, ℕ, List, [], length, Some, Result, Ok, Err, All, slice_get, IfSome, unsigned_abs}
 use Rattle.std.specs.List.{Any}
 use Rattle.stated_order.specs.Steps.{IsOne, Then, Renamed, InTurn}
 use Rattle.snx_lines.specs.Lines.{PlainLine}
@@ -56,6 +56,10 @@ abbrev pub AreSized : Shape → List Row → Type 0
 AreSized Value rows = All (λ row. IsAtMost (10 ^ 12) row.value) rows
 AreSized Vector rows = Unit {0}
 
+-- a standard deviation has at most 18 digits (its columns hold no more than 11)
+abbrev pub HasShortDeviation : Row → Type 0
+HasShortDeviation row = IfSome row.dev (λ dev. unsigned_abs dev.mant < 10 ^ 18)
+
 -- what the rows of a block keep
 pub record AreSound (shape : Shape) (rows : List Row) : Type 0 where
   pub few : length rows ≤ 1000
@@ -63,6 +67,7 @@ pub record AreSound (shape : Shape) (rows : List Row) : Type 0 where
   pub indices : AreDistinct (λ row. row.index) rows
   pub names : AreDistinct (λ row. row.id) rows
   pub sized : AreSized shape rows
+  pub deviations : All HasShortDeviation rows
 
 -- a block of rows has one reading at most, or one bad line, and never both
 abbrev pub OneBlock : Type 0

@@ -1,3 +1,4 @@
 pub mod Indices
 pub mod Rows
 pub mod Blocks
+pub mod Named

@@ -1,0 +1,10 @@
+pub mod Alone
+pub mod CellLaws
+pub mod ColumnLaws
+pub mod EntryLaws
+pub mod MatchLaws
+pub mod MeaningLaws
+pub mod NameLaws
+pub mod RankLaws
+pub mod TableLaws
+pub mod WeightLaws

@@ -1,0 +1,4 @@
+pub mod Naming
+pub mod Weighted
+pub mod Tables
+pub mod Parts

@@ -1,7 +1,0 @@
-use Rattle.stated_order.specs.First.{HoldsLower}
-use Rattle.sym_blocks.specs.Tables.{entry_at}
-use Rattle.recover_neq.specs.Shown.{IsModest}
-use Rattle.recover_neq.proofs.limits.first_past.Given as goal
-
-abbrev pub invariant-loop-row : goal.invariant-loop-row
-invariant-loop-row g l = HoldsLower l.row (λ i j. IsModest (entry_at l.table i j))

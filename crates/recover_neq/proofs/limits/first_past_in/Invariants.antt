@@ -1,7 +1,0 @@
-use Rattle.stated_order.specs.First.{HoldsBelow}
-use Rattle.sym_blocks.specs.Tables.{entry_at}
-use Rattle.recover_neq.specs.Shown.{IsModest}
-use Rattle.recover_neq.proofs.limits.first_past_in.Given as goal
-
-abbrev pub invariant-loop-col : goal.invariant-loop-col
-invariant-loop-col g l = HoldsBelow l.col (λ j. IsModest (entry_at l.table l.row j))
