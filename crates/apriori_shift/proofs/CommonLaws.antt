@@ -17,7 +17,7 @@ use Rattle.param_ids.proofs.Ordered.{id_total, id_exact}
 use Rattle.param_ids.proofs.SameIds.{same_id}
 use Rattle.param_ids.proofs.Scaled.{at_ok}
 use Rattle.snx_rows.specs.declared.rows.Row.{Row}
-use Rattle.recover_neq.specs.Blocks.{is_row_of, row_of}
+use Rattle.snx_rows.specs.Named.{is_row_of, row_of}
 use Rattle.apriori_shift.specs.Common.{HasTwoUnits, IsLeastClash, OneCommon}
 use Rattle.apriori_shift.specs.Answers.{RowMap, HasFirstRows}
 use Rattle.apriori_shift.specs.Firsts.{IsLesser, IsClashOf, Stands}

@@ -27,7 +27,7 @@ use Rattle.neq_stack.proofs.HoldLaws.{neq_lies_in_stack}
 use Rattle.neq_stack.proofs.NameLaws.{contained, place_cases}
 use Rattle.neq_stack.proofs.PlaceLaws.{name_there}
 use Rattle.neq_stack.proofs.PlacedLaws.{no_row, no_right, right_there}
-use Rattle.recover_neq.proofs.LawExact.{means_holds}
+use Rattle.neq_stack.proofs.MeaningLaws.{means_holds}
 use Rattle.difference_products.specs.Products.{IsProduct}
 use Rattle.difference_products.specs.Exact.{HoldFactors}
 use Rattle.difference_products.proofs.HoldLaws.{product_holds}

@@ -6,7 +6,7 @@ use Rattle.decimal_e.specs.Decimals.{Decimal}
 use Rattle.param_ids.specs.Plain.{PlainId}
 use Rattle.param_ids.specs.Order.{id_cmp}
 use Rattle.snx_rows.specs.declared.rows.Row.{Row}
-use Rattle.recover_neq.specs.Blocks.{row_of, zero_decimal}
+use Rattle.snx_rows.specs.Named.{row_of, zero_decimal}
 use Rattle.difference_products.specs.Products.{Place}
 use Rattle.apriori_shift.specs.declared.commons.CommonError.{CommonError}
 use Rattle.apriori_shift.specs.declared.commons.CommonError.TheVariants as clashes

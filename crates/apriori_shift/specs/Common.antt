@@ -24,7 +24,7 @@ pub record IsLeastClash (rows : List Row) (id : PlainId) : Type 0 where
   pub clash : HasTwoUnits rows id
   pub least : (other : PlainId) → id_cmp other id ≡ Less → ¬ (HasTwoUnits rows other)
 
--- the rows themselves, by which a name has the value of the first row of its name (`value_of` of recover_neq), or else the least name
+-- the rows themselves, by which a name has the value of the first row of its name (`value_of` of snx_rows), or else the least name
 -- with two units
 abbrev pub IsCommon : List Row → Result (List Row) PlainId → Type 0
 IsCommon rows (Ok base) = (base ≡ rows) × ((id : PlainId) → ¬ (HasTwoUnits rows id))

@@ -11,7 +11,7 @@ mod rights;
 mod shifting;
 
 pub use commons::{Apriori, CommonError, common};
-pub use shifting::{ShiftError, shift};
+pub use shifting::{ShiftError, shift, shift_to};
 
 /// Rows have one common value of a name or one least clash, normal equations have one shift or one first place past its bound, a system
 /// in them lies, taken to the other values, in the shifted ones, and each system can be taken to other values.

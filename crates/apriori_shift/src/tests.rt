@@ -1,9 +1,7 @@
 //! Common values of two files, and normal equations of one parameter brought to them.
 
-ghost use Rattle.std.specs.Prelude.{◌^◌, All, IsSome, IsTrue, IfOk, map};
-ghost use Rattle.std.specs.BTreeMap.{get};
+ghost use Rattle.std.specs.Prelude.{◌^◌, All, IsTrue, IfOk, map};
 ghost use Rattle.decimal_e.specs.Fractions.{IsAtMost};
-ghost use Rattle.param_ids.specs.Order.{id_cmp};
 ghost use Rattle.neq_stack.specs.ByName.{AreAtMost};
 ghost use Rattle.neq_stack.specs.Neqs.{IsSound, neq_view};
 ghost use Rattle.apriori_shift.specs.Answers.{common_value};
@@ -87,8 +85,7 @@ fn one_equation<const N: usize>(alloc: Global, id: ParamId) -> Result<Neq<N>, Al
 
 // Whether all names have a value of at most 10^12 in size.
 fn has_values(names: &Names, base: &Apriori) -> bool
-    ensures known { IsTrue result → All (λ id. IsSome (get id_cmp base.now id)) names.now }
-    ensures values { IsTrue result → All (IsAtMost (10 ^ 12)) (map (common_value base.now) names.now) }
+    ensures { IsTrue result → All (IsAtMost (10 ^ 12)) (map (common_value base.now) names.now) }
 {
     for place in 0..names.len() {
         match base.get(names.at(place)) {
