@@ -1,0 +1,9 @@
+pub mod EstimateLaws
+pub mod MovingLaws
+pub mod SigmaLaws
+pub mod RemovedLaws
+pub mod ExactLaws
+pub mod ExistLaws
+pub mod Alone
+pub mod LessLaws
+pub mod RecoverLaws

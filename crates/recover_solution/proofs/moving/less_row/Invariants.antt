@@ -1,0 +1,13 @@
+use Rattle.std.proofs.Common.{◌≡◌, ◌≤◌, ◌<◌, ℕ, length}
+use Rattle.sym_blocks.specs.Tables.{before, entry_at}
+use Rattle.recover_solution.specs.Parts.{IsLessAt}
+use Rattle.recover_solution.proofs.moving.less_row.Given as goal
+
+abbrev pub invariant-loop-col : goal.invariant-loop-col
+invariant-loop-col g l = record {
+  size : l.table.size ≡ l.fn.table.size;
+  whole : length l.table.entries ≡ before l.table.size;
+  done : (j : ℕ) → j < l.col → IsLessAt l.removed l.fn.table l.table l.row j;
+  left : (j : ℕ) → l.col ≤ j → j ≤ l.row → entry_at l.table l.row j ≡ entry_at l.fn.table l.row j;
+  others : (i j : ℕ) → i < l.fn.table.size → j ≤ i → (i ≡ l.row → ⊥) → entry_at l.table i j ≡ entry_at l.fn.table i j;
+}

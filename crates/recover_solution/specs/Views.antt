@@ -1,0 +1,37 @@
+-- A solution in memory, without where it lies, and what keeps its parts sound.
+use Rattle.std.specs.Prelude.{◌<◌, ◌^◌, All, length, pos, ◌<ℤ◌, unsigned_abs}
+use Rattle.decimal_e.specs.Decimals.{Decimal}
+use Rattle.snx_rows.specs.Blocks.{AreSound, HasShortDeviation}
+use Rattle.snx_rows.specs.declared.rows.Shape.TheVariants.{Value}
+use Rattle.snx_matrices.specs.Elements.{AreElementsOf}
+use Rattle.recover_solution.specs.Solutions.{PlainConstraint, PlainSolution}
+use Rattle.recover_solution.specs.Solutions as plain
+use Rattle.recover_solution.specs.declared.solutions.Constraint.{Constraint}
+use Rattle.recover_solution.specs.declared.solutions.Constraint.TheVariants.{Free, Matrix, Sigmas}
+use Rattle.recover_solution.specs.declared.solutions.Solution.{Solution}
+
+abbrev pub constraint_view : Constraint → PlainConstraint
+constraint_view Free = plain.Free
+constraint_view (Matrix cells) = plain.Matrix cells.now
+constraint_view Sigmas = plain.Sigmas
+
+abbrev pub solution_view : Solution → PlainSolution
+solution_view s = record { apriori = s.apriori.now; estimates = s.estimates.now; cells = s.cells.now; constraint = constraint_view s.constraint }
+
+-- the elements of the constraints' matrix are those of a matrix over the a priori rows
+abbrev pub IsConstraintOver : PlainConstraint → PlainSolution → Type 0
+IsConstraintOver (plain.Matrix cells) solution = AreElementsOf (length solution.apriori) cells
+IsConstraintOver other solution = Unit {0}
+
+-- the rows and the elements are those of blocks that were read
+pub record IsRead (solution : PlainSolution) : Type 0 where
+  pub apriori : AreSound Value solution.apriori
+  pub deviations : All HasShortDeviation solution.apriori
+  pub estimates : AreSound Value solution.estimates
+  pub cells : AreElementsOf (length solution.estimates) solution.cells
+  pub constraint : IsConstraintOver solution.constraint solution
+
+-- a weight is positive and has at most 9 digits
+pub record IsWeight (weight : Decimal) : Type 0 where
+  pub some : pos 0 <ℤ weight.mant
+  pub few : unsigned_abs weight.mant < 10 ^ 9

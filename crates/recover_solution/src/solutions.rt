@@ -1,0 +1,28 @@
+//! Solutions and their constraints.
+
+use snx_matrices::Cell;
+use snx_rows::Row;
+
+/// The constraints that are removed from a solution.
+#[derive(Clone, Copy)]
+pub enum Constraint<'a> {
+    /// None are.
+    Free,
+    /// Those of an information matrix over the a priori rows.
+    Matrix(&'a [Cell]),
+    /// Those of the standard deviations of the a priori rows, where these are positive.
+    Sigmas,
+}
+
+/// The blocks of a solution.
+#[derive(Clone, Copy)]
+pub struct Solution<'a> {
+    /// The a priori values with their standard deviations.
+    pub apriori: &'a [Row],
+    /// The estimates.
+    pub estimates: &'a [Row],
+    /// The elements of the information matrix, over the rows of the estimates.
+    pub cells: &'a [Cell],
+    /// The constraints that are removed.
+    pub constraint: Constraint<'a>,
+}
