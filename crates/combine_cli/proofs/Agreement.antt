@@ -11,18 +11,19 @@ use Rattle.stated_order.specs.Lists.{AreEach}
 use Rattle.decimal_e.specs.Decimals.{Decimal}
 use Rattle.param_ids.specs.Plain.{PlainId}
 use Rattle.param_ids.specs.Tables.{ScaleMap}
+use Rattle.snx_rows.specs.Named.{value_of}
 use Rattle.snx_rows.specs.declared.rows.Row.{Row}
 use Rattle.neq_stack.specs.Neqs.{PlainNeq, IsSound}
 use Rattle.neq_stack.specs.ByName.{Parameter, HasParameter, AllAgree, AreAtMost}
-use Rattle.recover_neq.specs.Blocks.{Blocks, value_of}
-use Rattle.recover_neq.specs.Recovery.{IsParameterOf, scale_of}
-use Rattle.recover_neq.proofs.ParameterLaws.{parameters_are}
+use Rattle.named_tables.specs.Weighted.{scale_of}
+use Rattle.recover_solution.proofs.MovingLaws.{Keeps, shift_keeps}
+use Rattle.file_recovery.specs.Recovery.{IsParameterOf}
+use Rattle.file_recovery.proofs.RecoveryLaws.{IsKnownAs, known_by, parameters_are}
 use Rattle.run_inputs.specs.Inputs.{PlainInput}
 use Rattle.combine_cli.specs.Combination.{apriori_rows, is_reference, counted_rows, HaveCommon, Part}
 use Rattle.combine_cli.specs.Parts.{neqs_of, IsPartOf}
-use Rattle.combine_cli.proofs.EachLaws.{went_on}
 use Rattle.combine_cli.proofs.Equal.{equal_unit}
-use Rattle.combine_cli.proofs.FileRows.{later, found_row, blocks_apriori, Keeps, shift_keeps}
+use Rattle.combine_cli.proofs.FileRows.{later, found_row}
 
 -- ---- members
 in_flat : {X A : Type 0} (f : X → List A) (xs : List X) (x : X) (a : A) → Contains xs x → Contains (f x) a → Contains (flat_map f xs) a
@@ -60,28 +61,27 @@ record HasUnit (rows : List Row) (id : PlainId) (unit : List ℕ) : Type 0 where
   name : row.id ≡ id
   is : unit ≡ row.unit
 
-unit_of_parameter : (scales : ScaleMap) (blocks : Blocks) (id : PlainId) (parameter : Parameter) → IsParameterOf blocks scales id parameter → HasUnit blocks.apriori id parameter.unit
-unit_of_parameter scales blocks id parameter is =
-    let found = found_row blocks.apriori id is.row is.known in
+unit_of_parameter : (scales : ScaleMap) (apriori : List Row) (id : PlainId) (parameter : Parameter) → IsParameterOf apriori scales id parameter → HasUnit apriori id parameter.unit
+unit_of_parameter scales apriori id parameter is =
+    let found = found_row apriori id is.row is.known in
     record { row = is.row; there = found.0; name = found.1; is = is.unit_is ∙ ap (λ (o : Option Row). map_or o (codes "    ") (λ (r : Row). r.unit)) is.known }
 
 module _ (scales : ScaleMap) (base : List Row) (input : PlainInput) (part : Part) (is : IsPartOf scales base input part) where
   kept : Keeps (map (value_of base) is.recovered.names) is.recovered part.neq
   kept = shift_keeps (map (value_of base) is.recovered.names) is.recovered part.neq is.shifts
 
+  own : IsKnownAs input.plan input.doc scales is.recovered
+  own = known_by input.plan input.doc scales is.recovered is.recovers
+
   -- what a part has of a parameter at the common values, its recovered normal equations have at the file's own
   before_shift : (id : PlainId) (p : Parameter) → HasParameter part.neq id p → (value : Decimal) × HasParameter is.recovered id (record { value = value; unit = p.unit; exponent = p.exponent })
   before_shift id p has =
-      let a = went_on _ _ is.recovered is.recovers in
-      let b = went_on _ _ is.recovered a.onward in
-      let c = went_on _ _ is.recovered b.onward in
-      let neq_is = c.onward.0 in
       let name : slice_get is.recovered.names has.place ≡ Some id = subst (λ (l : List PlainId). slice_get l has.place ≡ Some id) kept.names has.name in (
-        value_of a.gives.apriori id,
+        value_of own.apriori id,
         record {
           place = has.place;
           name = name;
-          value_is = ap (λ l. slice_get l has.place) neq_is.apriori ∙ slice_get-map (value_of a.gives.apriori) is.recovered.names has.place ∙ ap (option_map (value_of a.gives.apriori)) name;
+          value_is = ap (λ l. slice_get l has.place) own.values ∙ slice_get-map (value_of own.apriori) is.recovered.names has.place ∙ ap (option_map (value_of own.apriori)) name;
           unit_is = subst (λ (l : List (List ℕ)). slice_get l has.place ≡ Some p.unit) kept.units has.unit_is;
           exponent_is = subst (λ (l : List ℤ). slice_get l has.place ≡ Some p.exponent) kept.scales has.exponent_is;
         },
@@ -90,10 +90,9 @@ module _ (scales : ScaleMap) (base : List Row) (input : PlainInput) (part : Part
   part_unit : (id : PlainId) (p : Parameter) → HasParameter part.neq id p → HasUnit (apriori_rows input.doc.apriori) id p.unit
   part_unit id p has =
       let before = before_shift id p has in
-      let a = went_on _ _ is.recovered is.recovers in
       let q : Parameter = record { value = before.0; unit = p.unit; exponent = p.exponent } in
-      let of = parameters_are input.doc input.plan.weight scales a.gives is.recovered id q (sym a.given) is.recovers before.1 in
-      subst (λ (rows : List Row). HasUnit rows id p.unit) (blocks_apriori input.doc.apriori input.doc.vector input.doc.normal_matrix a.gives a.given) (unit_of_parameter scales a.gives id q of)
+      let of = parameters_are input.plan input.doc scales own.apriori is.recovered id q own.has is.recovers before.1 in
+      subst (λ (rows : List Row). HasUnit rows id p.unit) (sym (ap apriori_rows own.has)) (unit_of_parameter scales own.apriori id q of)
 
   part_parameter : (id : PlainId) (p : Parameter) → HasParameter part.neq id p → StandsAt scales base (apriori_rows input.doc.apriori) id p
   part_parameter id p has =
@@ -156,10 +155,10 @@ module _ (scales : ScaleMap) (base : List Row) where
   parts_as_many (input ∷ inputs) [] each = absurd each
   parts_as_many (input ∷ inputs) (part ∷ parts) each = ap suc (parts_as_many inputs parts each.1)
 
-  pub parts_known : (inputs : List PlainInput) (parts : List Part) → AreEach (IsPartOf scales base) inputs parts → All IsSound (neqs_of parts) × All (AreAtMost (2 * 10 ^ 34)) (neqs_of parts)
-  parts_known [] [] each = (All-nil IsSound, All-nil (AreAtMost (2 * 10 ^ 34)))
+  pub parts_known : (inputs : List PlainInput) (parts : List Part) → AreEach (IsPartOf scales base) inputs parts → All IsSound (neqs_of parts) × All (AreAtMost (3 * 10 ^ 34)) (neqs_of parts)
+  parts_known [] [] each = (All-nil IsSound, All-nil (AreAtMost (3 * 10 ^ 34)))
   parts_known [] (part ∷ parts) each = absurd each
   parts_known (input ∷ inputs) [] each = absurd each
   parts_known (input ∷ inputs) (part ∷ parts) each =
       let rest = parts_known inputs parts each.1 in
-      (All-cons IsSound part.neq (neqs_of parts) each.0.sound rest.0, All-cons (AreAtMost (2 * 10 ^ 34)) part.neq (neqs_of parts) each.0.modest rest.1)
+      (All-cons IsSound part.neq (neqs_of parts) each.0.sound rest.0, All-cons (AreAtMost (3 * 10 ^ 34)) part.neq (neqs_of parts) each.0.modest rest.1)

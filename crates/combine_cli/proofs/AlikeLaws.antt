@@ -13,17 +13,15 @@ use Rattle.param_ids.specs.Tables.{ScaleMap}
 use Rattle.snx_rows.specs.declared.rows.Row.{Row}
 use Rattle.snx_blocks.specs.Documents.{PlainDoc}
 use Rattle.control_doc.specs.Plain.{PlainPlan, PlainDatum, PlainReduction, PlainControl}
-use Rattle.control_doc.specs.declared.plans.Form.{Form}
-use Rattle.control_doc.specs.declared.plans.Form.TheVariants as forms
 use Rattle.neq_stack.specs.Neqs.{PlainNeq, IsSound}
 use Rattle.neq_stack.specs.Stacks.{IsStackOf}
-use Rattle.recover_neq.specs.Recovery.{IsRecovered}
+use Rattle.file_recovery.specs.Recovery.{IsRecovered}
 use Rattle.apriori_shift.specs.Common.{IsCommon}
 use Rattle.run_inputs.specs.Words.{CombinedFiles}
 use Rattle.run_inputs.specs.Controls.{is_named, apart_from, apart, built_of, built}
 use Rattle.run_inputs.specs.Inputs.{PlainInput, ReadsInputs}
 use Rattle.combine_cli.specs.Alike.{ungrouped, AreAlike, AlikeAreAdmitted, AlikeCombine}
-use Rattle.combine_cli.specs.Combination.{apriori_rows, is_reference, counted_rows, HaveCommon, RecoversBy, Recovers, Shifts, Part, IsPart, AreParts, Group, members, IsGroupStack, AreGroupStacks, IsWholeStack, StacksParts, AddsDatum, Reports, Texts, IsCombined}
+use Rattle.combine_cli.specs.Combination.{apriori_rows, is_reference, counted_rows, HaveCommon, Recovers, Shifts, Part, IsPart, AreParts, Group, members, IsGroupStack, AreGroupStacks, IsWholeStack, StacksParts, AddsDatum, Reports, Texts, IsCombined}
 use Rattle.combine_cli.specs.Parts.{neqs_of}
 use Rattle.neq_stack.proofs.Laws.{stacks_regroup, stacks_move, some_have_stack}
 use Rattle.combine_cli.proofs.EachLaws.{maps_from_each, went_on, in_turn_alike}
@@ -77,10 +75,8 @@ record SamePart (one other : Part) : Type 0 where
   pub plan : SamePlan one.plan other.plan
   pub neq : one.neq ≡ other.neq
 
-recovers_kept : (form : Form) (one other : PlainPlan) (scales : ScaleMap) (doc : PlainDoc) (neq : PlainNeq) → one.weight ≡ other.weight → RecoversBy form one scales doc (Ok neq) → RecoversBy form other scales doc (Ok neq)
-recovers_kept forms.Auto one other scales doc neq same h = subst (λ (weight : Decimal). IsRecovered doc weight scales (Ok neq)) same h
-recovers_kept forms.Neq one other scales doc neq same h = subst (λ (weight : Decimal). IsRecovered doc weight scales (Ok neq)) same h
-recovers_kept forms.Solution one other scales doc neq same h = absurd (cc)
+recovers_kept : (one other : PlainPlan) (scales : ScaleMap) (doc : PlainDoc) (neq : PlainNeq) → SamePlan one other → IsRecovered one doc scales (Ok neq) → IsRecovered other doc scales (Ok neq)
+recovers_kept one other scales doc neq same h = subst (λ (plan : PlainPlan). IsRecovered plan doc scales (Ok neq)) same h
 
 module _ (scales : ScaleMap) (base : List Row) where
   part_kept : (before others : List Part) (one other : PlainInput) (part : Part) → AreEach SamePart before others → SameInput one other → IsPart scales base before one (Ok part)
@@ -90,11 +86,8 @@ module _ (scales : ScaleMap) (base : List Row) where
       let g = went_on (Shifts one.plan.name base f.gives) _ part f.onward in
       let is : part ≡ record { plan = one.plan; neq = g.gives } = let e = g.onward in cc in
       let kept : Part = record { plan = other.plan; neq = g.gives } in
-      let form : one.plan.form ≡ other.plan.form = ap (λ (plan : PlainPlan). plan.form) same.plan in
-      let weight : one.plan.weight ≡ other.plan.weight = ap (λ (plan : PlainPlan). plan.weight) same.plan in
       let given : Recovers other.plan scales other.doc (Ok f.gives) =
-      subst (λ (doc : PlainDoc). Recovers other.plan scales doc (Ok f.gives)) same.doc
-      (subst (λ (form : Form). RecoversBy form other.plan scales one.doc (Ok f.gives)) form (recovers_kept one.plan.form one.plan other.plan scales one.doc f.gives weight f.given)) in (
+      subst (λ (doc : PlainDoc). Recovers other.plan scales doc (Ok f.gives)) same.doc (recovers_kept one.plan other.plan scales one.doc f.gives same.plan f.given) in (
         kept,
         then_gives (Recovers other.plan scales other.doc) _ f.gives (Ok kept) given (then_gives (Shifts other.plan.name base f.gives) _ g.gives (Ok kept) g.given refl),
         subst (λ (p : Part). SamePart p kept) (sym is) (record { plan = same.plan; neq = refl }),

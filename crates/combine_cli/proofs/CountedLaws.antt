@@ -1,46 +1,31 @@
--- The a priori rows of files that count, and the first row of a name among them.
+-- The a priori rows of files that count.
 use Rattle.std.proofs.Common.{◌≡◌, ◌∷◌, ◌++◌, ◌^◌, ◌∙◌, zero, suc, ℕ, Bool, true, false, cond, List, [], Option, Some, None, Ok, IfSome, refl, sym, ap, subst, arith}
-use Rattle.std.specs.Prelude.{All, Contains, IsSome}
+use Rattle.std.specs.Prelude.{All}
 use Rattle.std.specs.List.{filter, find, flat_map}
 use Rattle.std.specs.Net.Reader.{map_or}
-use Rattle.std.specs.BTreeMap.{get}
 use Rattle.std.proofs.lemmas.Int.{ints}
-use Rattle.std.proofs.lemmas.List.Elements.{All-nil, All-head, All-tail, All-append, All-filter, All-weaker, All-contains_itself, Contains-append_left, Contains-append_right}
+use Rattle.std.proofs.lemmas.List.Elements.{All-nil, All-head, All-tail, All-append, All-filter, All-weaker}
 use Rattle.decimal_e.specs.Decimals.{Decimal}
 use Rattle.decimal_e.specs.Fractions.{IsAtMost}
 use Rattle.param_ids.specs.Plain.{PlainId}
-use Rattle.param_ids.specs.Order.{id_cmp}
-use Rattle.param_ids.proofs.SameIds.{itself}
 use Rattle.snx_rows.specs.Blocks.{AreSound}
 use Rattle.snx_rows.specs.declared.rows.Shape.TheVariants.{Value}
+use Rattle.snx_rows.specs.Named.{zero_decimal, is_row_of, value_of}
 use Rattle.snx_rows.specs.declared.rows.Row.{Row}
 use Rattle.snx_blocks.specs.Documents.{IsValid}
-use Rattle.recover_neq.specs.Blocks.{zero_decimal, is_row_of, row_of, value_of}
 use Rattle.apriori_shift.specs.Common.{HasTwoUnits, IsCommon}
 use Rattle.apriori_shift.specs.Answers.{RowMap, HasFirstRows, common_value}
 use Rattle.run_inputs.specs.Inputs.{PlainInput}
 use Rattle.combine_cli.specs.Combination.{apriori_rows, is_reference, counted_rows}
-use Rattle.combine_cli.specs.Parts.{Covers}
 
 -- ---- the rows of some files
 abbrev pub rows_of : List PlainInput → List Row
 rows_of inputs = flat_map (λ (input : PlainInput). apriori_rows input.doc.apriori) inputs
 
-flat_contains : {X A : Type 0} (f : X → List A) (xs : List X) (x : X) (a : A) → Contains xs x → Contains (f x) a → Contains (flat_map f xs) a
-flat_contains f [] x a there here = absurd (omega (arith, there.1))
-flat_contains f (first ∷ rest) x a (zero, lt, e) here = Contains-append_left (f first) (flat_map f rest) a (subst (λ y. Contains (f y) a) (sym e) here)
-flat_contains f (first ∷ rest) x a (suc k, lt, e) here = Contains-append_right (f first) (flat_map f rest) a (flat_contains f rest x a (k, omega arith, e) here)
-
 flat_all : {X A : Type 0} (f : X → List A) (P : A → Type 0) (xs : List X) → All (λ x. All P (f x)) xs → All P (flat_map f xs)
 flat_all f P [] all = All-nil P
 flat_all f P (first ∷ rest) all =
     All-append P (f first) (flat_map f rest) (All-head (λ x. All P (f x)) first rest all) (flat_all f P rest (All-tail (λ x. All P (f x)) first rest all))
-
--- each row of a file counts
-row_counts : (reference : List ℕ) (inputs : List PlainInput) (input : PlainInput) (row : Row) → Contains inputs input → Contains (apriori_rows input.doc.apriori) row → Contains (counted_rows reference inputs) row
-row_counts reference inputs input row there here =
-    flat_contains (λ (input : PlainInput). apriori_rows input.doc.apriori) (filter (is_reference reference) inputs ++ inputs) input row
-    (Contains-append_right (filter (is_reference reference) inputs) inputs input there) here
 
 -- what each row of each file keeps, each row that counts keeps
 all_counted : (P : Row → Type 0) (reference : List ℕ) (inputs : List PlainInput) → All (λ (input : PlainInput). All P (apriori_rows input.doc.apriori)) inputs → All P (counted_rows reference inputs)
@@ -48,27 +33,6 @@ all_counted P reference inputs all =
     let Q : PlainInput → Type 0 = λ (input : PlainInput). All P (apriori_rows input.doc.apriori) in
     flat_all (λ (input : PlainInput). apriori_rows input.doc.apriori) P (filter (is_reference reference) inputs ++ inputs)
     (All-append Q (filter (is_reference reference) inputs) inputs (All-filter (is_reference reference) Q inputs all) all)
-
--- ---- the first row of a name
--- where a row stands, one of its name is found
-row_found : (rows : List Row) (row : Row) → Contains rows row → IsSome (row_of rows row.id)
-row_found [] row there = absurd (omega (arith, there.1))
-row_found (first ∷ rest) row there = by_test (is_row_of row.id first) refl there (row_found rest row)
-  where
-    by_test : (b : Bool) → is_row_of row.id first ≡ b → Contains (first ∷ rest) row → (Contains rest row → IsSome (row_of rest row.id)) → IsSome (cond b (Some first) (find (is_row_of row.id) rest))
-    by_test true e h later = refl
-    by_test false e (zero, lt, at) later = let no : true ≡ false = sym (itself row.id) ∙ ap (is_row_of row.id) (sym at) ∙ e in cc
-    by_test false e (suc k, lt, at) later = later (k, omega arith, at)
-
-module _ (base : RowMap) (reference : List ℕ) (inputs : List PlainInput) (first : HasFirstRows base (counted_rows reference inputs)) where
-  file_covered : (input : PlainInput) → Contains inputs input → Covers base input
-  file_covered input there =
-      All-weaker (Contains (apriori_rows input.doc.apriori)) (λ (row : Row). IsSome (get id_cmp base row.id))
-      (λ row here. subst IsSome (sym (first row.id)) (row_found (counted_rows reference inputs) row (row_counts reference inputs input row there here)))
-      (apriori_rows input.doc.apriori) (All-contains_itself (apriori_rows input.doc.apriori))
-
-  pub all_covered : All (Covers base) inputs
-  all_covered = All-weaker (Contains inputs) (Covers base) file_covered inputs (All-contains_itself inputs)
 
 -- ---- sizes
 picked : (P : Decimal → Type 0) (b : Bool) (row : Row) (o : Option Row) → P row.value → P (map_or o zero_decimal (λ (r : Row). r.value)) → P (map_or (cond b (Some row) o) zero_decimal (λ (r : Row). r.value))

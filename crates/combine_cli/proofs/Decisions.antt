@@ -1,12 +1,17 @@
 -- What is decided of a run, from what its steps answer.
-use Rattle.std.proofs.Common.{◌≡◌, ℕ, List, Option, Result, Ok, Err, IfOk, IfErr, subst}
+use Rattle.std.proofs.Common.{◌≡◌, ℕ, List, length, map, Option, Result, Ok, Err, IfOk, IfErr, subst, arith}
+use Rattle.std.specs.Prelude.{All}
+use Rattle.std.proofs.Math.ListN.{get_or-map}
+use Rattle.std.proofs.lemmas.List.{length-map}
+use Rattle.std.proofs.lemmas.List.Sorted.{All-permutation}
 use Rattle.stated_order.proofs.StepLaws.{then_gives, then_stops}
 use Rattle.desk_io.specs.Content.{File, Content, KeepsAll}
 use Rattle.desk_io.specs.Outputs.{NamedText}
-use Rattle.control_doc.specs.Plain.{PlainControl}
+use Rattle.control_doc.specs.Plain.{PlainPlan, PlainControl}
+use Rattle.control_doc.specs.Valid.{IsPositiveAndShort}
 use Rattle.refusal_lines.specs.declared.refusal.Refusal.{Refusal}
 use Rattle.run_inputs.specs.Words.{PlainCommand, AreCommand}
-use Rattle.run_inputs.specs.Inputs.{PlainInput, ReadsInputs}
+use Rattle.run_inputs.specs.Inputs.{PlainInput, AreInNameOrder, ReadsInputs}
 use Rattle.run_inputs.specs.Views.{IfTold}
 use Rattle.combine_cli.specs.Combination.{Texts, IsCombined}
 use Rattle.combine_cli.specs.Verdict.{Combines, HasControl, IsVerdict, outputs_with}
@@ -14,6 +19,13 @@ use Rattle.combine_cli.specs.Headline.{IsCertifiedReport}
 use Rattle.combine_cli.specs.Plan.{IsTextsOf, IsPlanned, texts_view}
 use Rattle.combine_cli.specs.declared.combining.Combined.{Combined}
 use Rattle.combine_cli.proofs.Verdicts.{by_texts}
+
+-- ---- the weights of files that were read
+pub weights_kept : {X : Type 0} (plan_of : X → PlainPlan) (files : List PlainPlan) (inputs : List X) → All (λ (plan : PlainPlan). IsPositiveAndShort plan.weight) files → AreInNameOrder files (map plan_of inputs)
+    → All (λ input. IsPositiveAndShort (plan_of input).weight) inputs
+weights_kept plan_of files inputs weights order k d lt =
+    subst (λ (plan : PlainPlan). IsPositiveAndShort plan.weight) (get_or-map plan_of inputs k d)
+    (All-permutation (λ (plan : PlainPlan). IsPositiveAndShort plan.weight) files (map plan_of inputs) order.same weights k (plan_of d) (omega (arith, length-map inputs plan_of)))
 
 -- ---- the texts of files that were read
 module _ (control : PlainControl) (files : List ℕ → Option File) (inputs : List PlainInput) (reads : ReadsInputs control.files files (Ok inputs)) where

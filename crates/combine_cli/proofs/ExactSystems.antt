@@ -12,6 +12,7 @@ use Rattle.stated_order.specs.Steps.{Through}
 use Rattle.sys_model.specs.Scaling.{LiesInStack}
 use Rattle.param_ids.specs.Plain.{PlainId}
 use Rattle.param_ids.specs.Tables.{ScaleMap}
+use Rattle.snx_rows.specs.Named.{value_of}
 use Rattle.snx_rows.specs.declared.rows.Row.{Row}
 use Rattle.control_doc.specs.Plain.{PlainDatum, PlainControl}
 use Rattle.control_doc.specs.Valid.{HasPositiveSigmas}
@@ -22,8 +23,7 @@ use Rattle.neq_stack.specs.Stacks.{IsStackOf}
 use Rattle.neq_stack.specs.Systems.{NamedSystem, IsSumOf, LiesInNeq, multiple, over, sum_of}
 use Rattle.neq_stack.proofs.Laws.{stack_holds, neq_lies_in_stack}
 use Rattle.neq_stack.proofs.ParameterLaws.{has_there, some_stands}
-use Rattle.recover_neq.specs.Blocks.{value_of}
-use Rattle.recover_neq.specs.Recovery.{scale_of}
+use Rattle.named_tables.specs.Weighted.{scale_of}
 use Rattle.apriori_shift.proofs.MoveLaws.{multiples_move}
 use Rattle.datum_rows.specs.Additions.{AddsRow}
 use Rattle.datum_rows.specs.Conditions.{Condition, conditions}
@@ -143,13 +143,12 @@ multiples_over k q (S ∷ systems) all =
 
 multiple_at : (k : ℕ) (base : List Row) (input : PlainInput) (T : NamedSystem) → 0 < k → IsExactAt base input T → IsExactAt base input (multiple k T)
 multiple_at k base input T some is = record {
-  blocks = is.blocks;
-  has = is.has;
   names = is.names;
-  named = is.named;
+  apriori = is.apriori;
+  known = is.known;
   S = is.S;
   exact = is.exact;
-  moves = multiples_move is.names (value_of is.blocks.apriori) (value_of base) is.S T k some is.moves;
+  moves = multiples_move is.names (value_of is.apriori) (value_of base) is.S T k some is.moves;
 }
 
 multiples_each : (k : ℕ) (base : List Row) (inputs : List PlainInput) (systems : List NamedSystem) → 0 < k → AreEach (IsExactAt base) inputs systems → AreEach (IsExactAt base) inputs (map (multiple k) systems)

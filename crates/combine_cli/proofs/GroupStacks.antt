@@ -4,7 +4,7 @@ use Rattle.std.specs.Prelude.{All, Contains}
 use Rattle.std.specs.List.{filter}
 use Rattle.std.proofs.Math.Nat.{mul-le-mul_right}
 use Rattle.std.proofs.lemmas.List.{length-map, map-append, take_more, take-append-drop}
-use Rattle.std.proofs.lemmas.List.Elements.{All-nil, All-push, All-weaker, All-contains}
+use Rattle.std.proofs.lemmas.List.Elements.{All-head, All-tail, All-nil, All-push, All-weaker, All-contains}
 use Rattle.std.proofs.lemmas.List.Sums.{length-filter, count_by-le-length}
 use Rattle.stated_order.specs.Steps.{InTurn}
 use Rattle.stated_order.proofs.StepLaws.{in_turn_more, in_turn_stops, then_gives}
@@ -57,6 +57,18 @@ as_many parts before (group ∷ groups) stacks h =
     let f = went_on (IsGroupStack parts before group) (λ stack. InTurn (IsGroupStack parts) (before ++ stack ∷ []) groups) stacks h in
     omega (arith, as_many parts (before ++ f.gives ∷ []) groups stacks f.onward, length-append before (f.gives ∷ []))
 
+-- a stack is that of some group of so many files at most
+abbrev IsOfFew : List Part → ℕ → PlainNeq → Type 0
+IsOfFew parts count stack = (group : Group) × (length (members parts group) ≤ count) × IsStackOf (members parts group) stack
+
+of_few : (parts : List Part) (count : ℕ) (before : List PlainNeq) (groups : List Group) (stacks : List PlainNeq) → All (λ group. length (members parts group) ≤ count) groups → All (IsOfFew parts count) before
+    → InTurn (IsGroupStack parts) before groups (Ok stacks) → All (IsOfFew parts count) stacks
+of_few parts count before [] stacks few all h = let same : stacks ≡ before = cc in subst (All (IsOfFew parts count)) (sym same) all
+of_few parts count before (group ∷ groups) stacks few all h =
+    let f = went_on (IsGroupStack parts before group) (λ stack. InTurn (IsGroupStack parts) (before ++ stack ∷ []) groups) stacks h in
+    of_few parts count (before ++ f.gives ∷ []) groups stacks (All-tail (λ group. length (members parts group) ≤ count) group groups few)
+    (All-push (IsOfFew parts count) before f.gives all (group, All-head (λ group. length (members parts group) ≤ count) group groups few, f.given)) f.onward
+
 at_most_more : (few many most : ℕ) (neq : PlainNeq) → few ≤ many → AreAtMost (few * most) neq → AreAtMost (many * most) neq
 at_most_more few many most neq le at_most =
     let more : few * most ≤ many * most = mul-le-mul_right most le in
@@ -72,11 +84,11 @@ module _ (parts : List Part) (groups : List Group) (stacks : List PlainNeq) (h :
   pub stacks_sound : All IsSound stacks
   stacks_sound = All-weaker (IsOfGroup parts) IsSound (λ stack is. is.1.sound) stacks are_of_groups
 
-  pub stacks_modest : (most : ℕ) → All (AreAtMost most) (neqs_of parts) → length parts ≤ 64 → All (AreAtMost (64 * most)) stacks
-  stacks_modest most all few =
-      All-weaker (IsOfGroup parts) (AreAtMost (64 * most)) (λ stack is.
-      at_most_more (length (members parts is.0)) 64 most stack (omega (arith, members_few parts is.0))
-      (stack_is_at_most most (members parts is.0) stack (members_all parts is.0 (AreAtMost most) all) is.1)) stacks are_of_groups
+  pub stacks_modest : (most count : ℕ) → All (AreAtMost most) (neqs_of parts) → All (λ group. length (members parts group) ≤ count) groups → All (AreAtMost (count * most)) stacks
+  stacks_modest most count all few =
+      All-weaker (IsOfFew parts count) (AreAtMost (count * most)) (λ stack is.
+      at_most_more (length (members parts is.0)) count most stack is.1
+      (stack_is_at_most most (members parts is.0) stack (members_all parts is.0 (AreAtMost most) all) is.2)) stacks (of_few parts count [] groups stacks few (All-nil (IsOfFew parts count)) h)
 
   -- what a stack has of a parameter, some part has
   has_part : (stack : PlainNeq) (id : PlainId) (parameter : Parameter) → Contains stacks stack → HasParameter stack id parameter → (neq : PlainNeq) × Contains (neqs_of parts) neq × HasParameter neq id parameter

@@ -9,6 +9,7 @@ pub mod Equal
 pub mod ExactSystems
 pub mod FileRows
 pub mod GroupLaws
+pub mod GroupShares
 pub mod GroupSorts
 pub mod GroupStacks
 pub mod OneCombination
@@ -22,3 +23,4 @@ pub mod TurnLaws
 pub mod UngroupLaws
 pub mod Verdicts
 pub mod WorkedLaws
+pub mod WorkedSolution

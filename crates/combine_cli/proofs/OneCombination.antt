@@ -12,16 +12,14 @@ use Rattle.std.proofs.lemmas.Map.Views.{btree_set_contains_iff}
 use Rattle.stated_order.specs.Steps.{IsOne, Then}
 use Rattle.stated_order.proofs.StepLaws.{gives_or_refuses, then_is_one, in_turn_is_one, renamed_is_one}
 use Rattle.param_ids.specs.Tables.{ScaleMap}
+use Rattle.snx_rows.specs.Named.{value_of}
 use Rattle.snx_rows.specs.declared.rows.Row.{Row}
 use Rattle.snx_blocks.specs.Documents.{PlainDoc}
 use Rattle.control_doc.specs.Plain.{PlainPlan, PlainDatum, PlainControl}
-use Rattle.control_doc.specs.declared.plans.Form.{Form}
-use Rattle.control_doc.specs.declared.plans.Form.TheVariants as forms
 use Rattle.neq_stack.specs.Neqs.{PlainNeq}
 use Rattle.neq_stack.specs.Stacks.{IsStacked}
-use Rattle.recover_neq.specs.Recovery.{IsRecovered}
-use Rattle.recover_neq.specs.Blocks.{value_of}
-use Rattle.recover_neq.proofs.Alone.{recovered_is_one}
+use Rattle.file_recovery.specs.Recovery.{IsRecovered}
+use Rattle.file_recovery.proofs.RecoveryLaws.{recovered_is_one}
 use Rattle.apriori_shift.specs.Common.{IsCommon}
 use Rattle.apriori_shift.specs.Shifts.{IsShift}
 use Rattle.apriori_shift.proofs.Alone.{one_shift}
@@ -34,7 +32,7 @@ use Rattle.bounds_text.specs.Report.{numbers_report}
 use Rattle.run_inputs.specs.Inputs.{PlainInput}
 use Rattle.refusal_lines.specs.declared.refusal.Refusal.TheVariants.{UnitClash}
 use Rattle.combine_cli.specs.Causes.{refusal_of_recovery, refusal_of_shift, refusal_of_datum, refusal_of_rules}
-use Rattle.combine_cli.specs.Combination.{counted_rows, HaveCommon, RecoversBy, Recovers, Shifts, Part, IsPart, AreParts, Group, place_of, group_cmp, AreGroups, IsGroupStack, AreGroupStacks, IsWholeStack, StacksParts, AddsDatum, stack_in, Reports, IsCombined}
+use Rattle.combine_cli.specs.Combination.{counted_rows, HaveCommon, Recovers, Shifts, Part, IsPart, AreParts, Group, place_of, group_cmp, AreGroups, IsGroupStack, AreGroupStacks, IsWholeStack, StacksParts, AddsDatum, stack_in, Reports, IsCombined}
 use Rattle.combine_cli.proofs.EachLaws.{went_on}
 use Rattle.neq_stack.proofs.Laws.{stack_is_one}
 
@@ -43,17 +41,15 @@ common_is_one : (reference : List ℕ) (inputs : List PlainInput) → IsOne (Hav
 common_is_one reference inputs = renamed_is_one UnitClash (IsCommon (counted_rows reference inputs)) (one_common (counted_rows reference inputs))
 
 -- ---- the normal equations of each file
-recovers_is_one : (form : Form) (plan : PlainPlan) (scales : ScaleMap) (doc : PlainDoc) → IsOne (RecoversBy form plan scales doc)
-recovers_is_one forms.Auto plan scales doc = renamed_is_one (refusal_of_recovery forms.Auto plan.name) (IsRecovered doc plan.weight scales) (recovered_is_one doc plan.weight scales)
-recovers_is_one forms.Neq plan scales doc = renamed_is_one (refusal_of_recovery forms.Neq plan.name) (IsRecovered doc plan.weight scales) (recovered_is_one doc plan.weight scales)
-recovers_is_one forms.Solution plan scales doc = λ r s a b. a ∙ sym b
+recovers_is_one : (plan : PlainPlan) (scales : ScaleMap) (doc : PlainDoc) → IsOne (Recovers plan scales doc)
+recovers_is_one plan scales doc = renamed_is_one (refusal_of_recovery plan.name) (IsRecovered plan doc scales) (recovered_is_one plan doc scales)
 
 shifts_is_one : (name : List ℕ) (base : List Row) (neq : PlainNeq) → IsOne (Shifts name base neq)
 shifts_is_one name base neq = renamed_is_one (refusal_of_shift name neq.names) (IsShift (map (value_of base) neq.names) neq) (one_shift (map (value_of base) neq.names) neq)
 
 part_is_one : (scales : ScaleMap) (base : List Row) (before : List Part) (input : PlainInput) → IsOne (IsPart scales base before input)
 part_is_one scales base before input =
-    then_is_one (Recovers input.plan scales input.doc) _ (recovers_is_one input.plan.form input.plan scales input.doc) (λ recovered given.
+    then_is_one (Recovers input.plan scales input.doc) _ (recovers_is_one input.plan scales input.doc) (λ recovered given.
     then_is_one (Shifts input.plan.name base recovered) _ (shifts_is_one input.plan.name base recovered) (λ neq moved r s a b. a ∙ sym b))
 
 parts_are_one : (scales : ScaleMap) (base : List Row) (inputs : List PlainInput) → IsOne (AreParts scales base inputs)

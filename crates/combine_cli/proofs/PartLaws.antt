@@ -8,34 +8,18 @@ use Rattle.std.proofs.lemmas.List.Elements.{All-contains}
 use Rattle.stated_order.specs.Lists.{AreEach}
 use Rattle.param_ids.specs.Tables.{ScaleMap}
 use Rattle.snx_rows.specs.declared.rows.Row.{Row}
-use Rattle.snx_blocks.specs.Documents.{PlainDoc}
-use Rattle.control_doc.specs.Plain.{PlainPlan}
-use Rattle.control_doc.specs.declared.plans.Form.{Form}
-use Rattle.control_doc.specs.declared.plans.Form.TheVariants as forms
-use Rattle.recover_neq.specs.Recovery.{IsRecovered}
-use Rattle.recover_neq.specs.declared.RecoverFault.{RecoverFault}
-use Rattle.recover_neq.specs.declared.RecoverError.TheVariants.{Memory, Fault}
+use Rattle.file_recovery.specs.declared.faults.FileFault.{FileFault}
+use Rattle.file_recovery.specs.declared.faults.FileError.TheVariants.{Memory, Fault}
 use Rattle.run_inputs.specs.Inputs.{PlainInput}
-use Rattle.combine_cli.specs.Causes.{refusal_of_recovery}
-use Rattle.combine_cli.specs.Combination.{RecoversBy, Part, IsPart, AreParts}
+use Rattle.combine_cli.specs.Combination.{Part, IsPart, AreParts}
 use Rattle.combine_cli.specs.Parts.{IsPartOf}
 use Rattle.combine_cli.proofs.TurnLaws.{turn_more, pair_more}
 
 -- ---- why a file has no part
-pub recovers_fault : (form : Form) (plan : PlainPlan) (scales : ScaleMap) (doc : PlainDoc) (fault : RecoverFault) → form ≢ forms.Solution → IsRecovered doc plan.weight scales (Err fault)
-    → RecoversBy form plan scales doc (Err (refusal_of_recovery form plan.name fault))
-recovers_fault forms.Auto plan scales doc fault other h = (fault, h, refl)
-recovers_fault forms.Neq plan scales doc fault other h = (fault, h, refl)
-recovers_fault forms.Solution plan scales doc fault other h = absurd (other refl)
-
 -- the cause that a recovery answers, where it is not want of memory
-pub fault_told : (fault : RecoverFault) (P : RecoverFault → Type 0) → (Fault fault ≡ Memory) ⊎ ((other : RecoverFault) × (Fault fault ≡ Fault other) × P other) → P fault
+pub fault_told : (fault : FileFault) (P : FileFault → Type 0) → (Fault fault ≡ Memory) ⊎ ((other : FileFault) × (Fault fault ≡ Fault other) × P other) → P fault
 fault_told fault P (inl e) = absurd (cc)
 fault_told fault P (inr (other, e, h)) = let same : other ≡ fault = cc in subst P same h
-
--- ---- the file at a place
-pub mapped_at : {X A : Type 0} (view : X → A) (P : A → Type 0) (xs : List X) (i : ℕ) (x : X) → i < length xs → x ≡ get_or xs i x → All P (map view xs) → P (view x)
-mapped_at view P xs i x lt is all = All-contains P (map view xs) (view x) all (i, omega (arith, length-map xs view), get_or-map view xs i x ∙ ap view (sym is))
 
 -- ---- one more part
 pub pushed_whole : {T E X : Type 0} (r : Result T E) (xs whole front : List X) → is_err r ≡ false → xs ≡ (if is_ok r then whole else front) → xs ≡ whole

@@ -8,86 +8,25 @@ use Rattle.stated_order.specs.Steps.{InTurn}
 use Rattle.decimal_e.specs.Decimals.{Decimal}
 use Rattle.decimal_e.specs.Fractions.{IsAtMost}
 use Rattle.param_ids.specs.Plain.{PlainId}
-use Rattle.param_ids.specs.Order.{IsNames}
 use Rattle.param_ids.specs.Tables.{ScaleMap, IsScale}
+use Rattle.snx_rows.specs.Named.{value_of}
 use Rattle.snx_rows.specs.declared.rows.Row.{Row}
-use Rattle.whole_numbers.specs.Intervals.{Interval}
-use Rattle.sym_blocks.specs.Tables.{before}
-use Rattle.snx_blocks.specs.Documents.{PlainDoc}
-use Rattle.control_doc.specs.Plain.{PlainPlan}
-use Rattle.control_doc.specs.declared.plans.Form.{Form}
-use Rattle.control_doc.specs.declared.plans.Form.TheVariants as forms
 use Rattle.neq_stack.specs.Neqs.{PlainNeq, IsSound}
 use Rattle.neq_stack.specs.ByName.{Parameter, HasParameter}
 use Rattle.neq_stack.specs.Stacks.{IsStackOf}
-use Rattle.recover_neq.specs.Blocks.{Blocks, value_of}
-use Rattle.recover_neq.specs.Recovery.{IsNeqOf, IsRecovered}
-use Rattle.difference_products.specs.Products.{IsProduct}
-use Rattle.apriori_shift.specs.Shifts.{IsShift, IsLessBy, factors_in, moved_to}
-use Rattle.apriori_shift.proofs.RightLaws.{products_length, less_length}
+use Rattle.file_recovery.proofs.MadeLaws.{IsMade, shifted_made, recovered_is_made}
 use Rattle.run_inputs.specs.Inputs.{PlainInput}
-use Rattle.combine_cli.specs.Combination.{RecoversBy, Recovers, Shifts, Part, IsPart, AreParts}
+use Rattle.combine_cli.specs.Combination.{Recovers, Shifts, Part, IsPart, AreParts}
 use Rattle.combine_cli.proofs.EachLaws.{went_on}
 use Rattle.combine_cli.specs.Parts.{neqs_of}
 
--- ---- normal equations of a file
--- as many rows, right sides, values, units and exponents as names, which stand in order
-pub record IsMade (neq : PlainNeq) : Type 0 where
-  pub names : IsNames neq.names
-  pub rows : neq.table.size ≡ length neq.names
-  pub entries : length neq.table.entries ≡ before neq.table.size
-  pub rights : length neq.right ≡ length neq.names
-  pub values : length neq.apriori ≡ length neq.names
-  pub named_units : length neq.units ≡ length neq.names
-  pub exponents : length neq.scales ≡ length neq.names
-
-neq_made : (blocks : Blocks) (weight : Decimal) (scales : ScaleMap) (neq : PlainNeq) → IsNeqOf blocks weight scales neq → IsMade neq
-neq_made blocks weight scales neq is = record {
-  names = is.names.1;
-  rows = is.rows;
-  entries = is.lower;
-  rights = ap length is.right ∙ length-map neq.names _;
-  values = ap length is.apriori ∙ length-map neq.names _;
-  named_units = ap length is.units ∙ length-map neq.names _;
-  exponents = ap length is.exponents ∙ length-map neq.names _;
-}
-
-recovered_made : (doc : PlainDoc) (weight : Decimal) (scales : ScaleMap) (neq : PlainNeq) → IsRecovered doc weight scales (Ok neq) → IsMade neq
-recovered_made doc weight scales neq h =
-    let a = went_on _ _ neq h in
-    let b = went_on _ _ neq a.onward in
-    let c = went_on _ _ neq b.onward in
-    neq_made a.gives weight scales neq c.onward.0
-
-form_made : (form : Form) (plan : PlainPlan) (scales : ScaleMap) (doc : PlainDoc) (neq : PlainNeq) → RecoversBy form plan scales doc (Ok neq) → IsMade neq
-form_made forms.Auto plan scales doc neq h = recovered_made doc plan.weight scales neq h
-form_made forms.Neq plan scales doc neq h = recovered_made doc plan.weight scales neq h
-form_made forms.Solution plan scales doc neq h = absurd (cc)
-
--- a shift keeps them so
-moved_made : (values : List Decimal) (neq : PlainNeq) (products : List Interval) → length values ≡ length neq.names → length products ≡ neq.table.size → IsMade neq → IsMade (moved_to values neq products)
-moved_made values neq products long many made = record {
-  names = made.names;
-  rows = made.rows;
-  entries = made.entries;
-  rights = less_length neq.right products (many ∙ made.rows ∙ sym made.rights) ∙ made.rights;
-  values = long;
-  named_units = made.named_units;
-  exponents = made.exponents;
-}
-
-shifted_made : (values : List Decimal) (neq after : PlainNeq) → length values ≡ length neq.names → IsMade neq → IsShift values neq (Ok after) → IsMade after
-shifted_made values neq after long made (inl kept) = let e = kept.1 in let same : after ≡ neq = cc in subst IsMade (sym same) made
-shifted_made values neq after long made (inr moved) =
-    let f = went_on (IsProduct (factors_in neq moved.1.0)) (IsLessBy values neq) after moved.1.2 in
-    subst IsMade (sym f.onward.1) (moved_made values neq f.gives long (products_length (factors_in neq moved.1.0) f.gives f.given) made)
-
+-- ---- normal equations of a file at the common values
 part_made : (scales : ScaleMap) (base : List Row) (before : List Part) (input : PlainInput) (part : Part) → IsPart scales base before input (Ok part) → IsMade part.neq
 part_made scales base before input part h =
     let f = went_on (Recovers input.plan scales input.doc) _ part h in
     let g = went_on (Shifts input.plan.name base f.gives) _ part f.onward in
     let is : part ≡ record { plan = input.plan; neq = g.gives } = let e = g.onward in cc in
-    let made = form_made input.plan.form input.plan scales input.doc f.gives f.given in
+    let made = recovered_is_made input.plan input.doc scales f.gives f.given in
     subst (λ (p : Part). IsMade p.neq) (sym is) (shifted_made (map (value_of base) f.gives.names) f.gives g.gives (length-map f.gives.names (value_of base)) made g.given)
 
 abbrev PartMade : Part → Type 0

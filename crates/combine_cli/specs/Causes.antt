@@ -6,26 +6,22 @@ use Rattle.neq_stack.specs.Systems.{name_at}
 use Rattle.difference_products.specs.Products.{Place}
 use Rattle.datum_rows.specs.Additions.{Fault}
 use Rattle.datum_rows.specs.Additions as datum
-use Rattle.snx_blocks.specs.declared.sections.Section.TheVariants.{Apriori}
-use Rattle.control_doc.specs.declared.plans.Form.{Form}
-use Rattle.control_doc.specs.declared.plans.Form.TheVariants as forms
-use Rattle.recover_neq.specs.declared.RecoverFault.{RecoverFault}
-use Rattle.recover_neq.specs.declared.RecoverFault.TheVariants as recovery
+use Rattle.file_recovery.specs.declared.faults.FileFault.{FileFault}
+use Rattle.file_recovery.specs.declared.faults.FileFault.TheVariants as files
+use Rattle.named_tables.specs.declared.faults.RecoverFault.TheVariants as recovery
 use Rattle.stack_rules.specs.declared.StackError.{StackError}
 use Rattle.stack_rules.specs.declared.StackError.TheVariants as rules
 use Rattle.refusal_lines.specs.declared.refusal.Scope.TheVariants.{File, Stack}
 use Rattle.refusal_lines.specs.declared.refusal.Refusal.{Refusal}
 use Rattle.refusal_lines.specs.declared.refusal.Refusal.TheVariants.{Block, Unmatched, UnmatchedSite, Empty, Unbuilt, Memory, Range, Pivot, Condition, Residual, Defect}
 
--- The refusal of a file whose normal equations are not recovered. Where a file need not be taken from its normal equations, it has a
--- priori values and lacks the right side or the matrix of normal equations, its solution would be taken, which is not built yet.
-abbrev pub refusal_of_recovery : Form → List ℕ → RecoverFault → Refusal
-refusal_of_recovery form name (recovery.MissingBlock Apriori) = Block (File name) Apriori
-refusal_of_recovery forms.Neq name (recovery.MissingBlock block) = Block (File name) block
-refusal_of_recovery form name (recovery.MissingBlock block) = Unbuilt name
-refusal_of_recovery form name (recovery.Unmatched id) = Unmatched (File name) id
-refusal_of_recovery form name recovery.Empty = Empty (File name)
-refusal_of_recovery form name (recovery.Range row col) = Range (File name) row col
+-- the refusal of a file of this name, whose normal equations are not recovered
+abbrev pub refusal_of_recovery : List ℕ → FileFault → Refusal
+refusal_of_recovery name (files.MissingBlock block) = Block (File name) block
+refusal_of_recovery name files.Unbuilt = Unbuilt name
+refusal_of_recovery name (files.Recovery (recovery.Unmatched id)) = Unmatched (File name) id
+refusal_of_recovery name (files.Recovery recovery.Empty) = Empty (File name)
+refusal_of_recovery name (files.Recovery (recovery.Range row col)) = Range (File name) row col
 
 -- the refusal of a file of this name, whose normal equations with these names are not brought to the common a priori values
 abbrev pub refusal_of_shift : List ℕ → List PlainId → Place → Refusal

@@ -10,16 +10,13 @@ use Rattle.std.specs.Str.{bytes_eq}
 use Rattle.std.specs.declared.cmp.Ordering.{Ordering}
 use Rattle.stated_order.specs.Steps.{Then, Renamed, InTurn}
 use Rattle.param_ids.specs.Tables.{ScaleMap}
+use Rattle.snx_rows.specs.Named.{value_of}
 use Rattle.snx_rows.specs.declared.rows.Row.{Row}
 use Rattle.snx_blocks.specs.Documents.{PlainDoc}
-use Rattle.snx_blocks.specs.declared.sections.Section.TheVariants.{Apriori}
 use Rattle.control_doc.specs.Plain.{PlainPlan, PlainDatum, PlainControl}
-use Rattle.control_doc.specs.declared.plans.Form.{Form}
-use Rattle.control_doc.specs.declared.plans.Form.TheVariants as forms
 use Rattle.neq_stack.specs.Neqs.{PlainNeq}
 use Rattle.neq_stack.specs.Stacks.{IsStacked}
-use Rattle.recover_neq.specs.Blocks.{value_of}
-use Rattle.recover_neq.specs.Recovery.{IsRecovered}
+use Rattle.file_recovery.specs.Recovery.{IsRecovered}
 use Rattle.apriori_shift.specs.Common.{IsCommon}
 use Rattle.apriori_shift.specs.Shifts.{IsShift}
 use Rattle.datum_rows.specs.Additions.{IsAddition}
@@ -28,7 +25,7 @@ use Rattle.stack_rules.specs.Stacks.{Stack, stack_of}
 use Rattle.bounds_text.specs.Report.{numbers_report}
 use Rattle.refusal_lines.specs.declared.refusal.Scope.TheVariants as places
 use Rattle.refusal_lines.specs.declared.refusal.Refusal.{Refusal}
-use Rattle.refusal_lines.specs.declared.refusal.Refusal.TheVariants.{Block, Unbuilt, UnitClash, TooMany}
+use Rattle.refusal_lines.specs.declared.refusal.Refusal.TheVariants.{UnitClash, TooMany}
 use Rattle.run_inputs.specs.Inputs.{PlainInput}
 use Rattle.combine_cli.specs.Causes.{refusal_of_recovery, refusal_of_shift, refusal_of_datum, refusal_of_rules}
 
@@ -51,18 +48,9 @@ abbrev pub HaveCommon : List ℕ → List PlainInput → Result (List Row) Refus
 HaveCommon reference inputs = Renamed UnitClash (IsCommon (counted_rows reference inputs))
 
 -- ---- the normal equations of each file
--- a file that is to be taken from its solution: that is not built yet, but its a priori values must be there
-abbrev pub solution_refusal : List ℕ → Option (List Row) → Refusal
-solution_refusal name None = Block (places.File name) Apriori
-solution_refusal name (Some rows) = Unbuilt name
-
--- the normal equations of a file with its weight, or why it has none
-abbrev pub RecoversBy : Form → PlainPlan → ScaleMap → PlainDoc → Result PlainNeq Refusal → Type 0
-RecoversBy forms.Solution plan scales doc result = result ≡ Err (solution_refusal plan.name doc.apriori)
-RecoversBy form plan scales doc result = Renamed (refusal_of_recovery form plan.name) (IsRecovered doc plan.weight scales) result
-
+-- the normal equations of a file by its plan, or why it has none
 abbrev pub Recovers : PlainPlan → ScaleMap → PlainDoc → Result PlainNeq Refusal → Type 0
-Recovers plan = RecoversBy plan.form plan
+Recovers plan scales doc = Renamed (refusal_of_recovery plan.name) (IsRecovered plan doc scales)
 
 -- normal equations of a file at the common values, or why they are not brought there
 abbrev pub Shifts : List ℕ → List Row → PlainNeq → Result PlainNeq Refusal → Type 0

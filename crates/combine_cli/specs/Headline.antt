@@ -7,14 +7,13 @@ use Rattle.sys_model.specs.Scaling.{LiesInStack}
 use Rattle.bounds_report.specs.Bounds.{AreCertified}
 use Rattle.bounds_report.specs.Printing.{numbers_at}
 use Rattle.param_ids.specs.Plain.{PlainId}
+use Rattle.snx_rows.specs.Named.{value_of}
 use Rattle.snx_rows.specs.declared.rows.Row.{Row}
 use Rattle.control_doc.specs.Plain.{PlainDatum, PlainControl}
 use Rattle.neq_stack.specs.Neqs.{PlainNeq}
 use Rattle.neq_stack.specs.Stacks.{IsStackOf}
 use Rattle.neq_stack.specs.Systems.{NamedSystem, IsSumOf, over}
-use Rattle.recover_neq.specs.Blocks.{Blocks, blocks_in, value_of}
-use Rattle.recover_neq.specs.Exact.{IsExact}
-use Rattle.recover_neq.specs.Recovery.{AreNamesOf}
+use Rattle.file_recovery.specs.Recovery.{IsExact, IsKnownBy}
 use Rattle.apriori_shift.specs.Moves.{Moves}
 use Rattle.datum_rows.specs.Exact.{IsDatumSystem}
 use Rattle.stack_rules.specs.Rules.{Numbers, IsAnswer}
@@ -27,13 +26,12 @@ use Rattle.combine_cli.specs.Verdict.{HasControl, outputs_with}
 -- An exact system of a file at the common a priori values: one of its exact systems, taken from the values of its own rows to those of the
 -- rows that count.
 pub record IsExactAt (base : List Row) (input : PlainInput) (T : NamedSystem) : Type 0 where
-  pub blocks : Blocks
-  pub has : blocks_in input.doc ≡ Ok blocks
   pub names : List PlainId
-  pub named : AreNamesOf blocks names
+  pub apriori : List Row
+  pub known : IsKnownBy input.plan input.doc names apriori
   pub S : NamedSystem
-  pub exact : IsExact input.doc input.plan.weight S
-  pub moves : Moves names (value_of blocks.apriori) (value_of base) S T
+  pub exact : IsExact input.plan input.doc S
+  pub moves : Moves names (value_of apriori) (value_of base) S T
 
 -- The exact systems of the inputs: for each file one at the common values, and their sum by name.
 pub record IsExactOf (reference : List ℕ) (inputs : List PlainInput) (S : NamedSystem) : Type 0 where

@@ -7,7 +7,9 @@ use Rattle.param_ids.specs.Order.{is_same_id}
 use Rattle.snx_rows.specs.declared.rows.Row.{Row}
 use Rattle.snx_matrices.specs.declared.elements.Content.TheVariants.{Info}
 use Rattle.snx_blocks.specs.Documents.{PlainDoc, empty_doc}
+use Rattle.control_doc.specs.Plain.{PlainPlan}
 use Rattle.control_doc.specs.Single.{alone_plan}
+use Rattle.control_doc.specs.declared.plans.Held.TheVariants.{Sigma}
 use Rattle.neq_stack.specs.Systems.{NamedSystem}
 use Rattle.run_inputs.specs.Inputs.{PlainInput}
 use Rattle.bounds_report.specs.declared.numbers.Printed.{Printed}
@@ -53,6 +55,10 @@ equation value matrix vector = record empty_doc {
 abbrev pub worked_document : PlainDoc
 worked_document = equation one four_thousand quarter
 
+-- a file that is taken with this weight, and of which nothing else is said
+abbrev pub weighing : Decimal → PlainPlan
+weighing weight = record (alone_plan (codes "in")) { weight = weight }
+
 -- the same as whole numbers over 4, by name
 abbrev pub at_worked : PlainId → ℤ → ℤ
 at_worked id value = if is_same_id worked_name id then value else pos 0
@@ -63,6 +69,22 @@ worked_system = record { q = 4; a = λ one other. at_worked one (at_worked other
 -- a file of this name with the normal equation matrix (x - value) = vector
 abbrev pub worked_file : List ℕ → Decimal → ℕ → ℕ → PlainInput
 worked_file name value matrix vector = record { plan = alone_plan name; size = 0; doc = equation value (whole matrix) (whole vector) }
+
+-- 1.5
+abbrev pub one_and_half : Decimal
+one_and_half = record { mant = pos 15; exp = negsuc 0 }
+
+-- a solution with the estimate 1.5, the information matrix 5 and the a priori value .1E+01, of the standard deviation .5; and a file of
+-- which the constraints of the standard deviations are removed
+abbrev pub worked_solution : PlainDoc
+worked_solution = record empty_doc {
+  apriori = Some (record (worked_row one) { dev = Some half } ∷ []);
+  estimates = Some (worked_row one_and_half ∷ []);
+  estimate_matrix = Some (record { content = Info; cells = record { row = 0; col = 0; value = whole 5 } ∷ [] });
+}
+
+abbrev pub freed_of_sigmas : PlainPlan
+freed_of_sigmas = record (alone_plan (codes "in")) { held = Sigma }
 
 -- a printed row with these bounds, in units of 10^-16
 abbrev pub bounded_by : ℤ → ℤ → Printed

@@ -3,7 +3,7 @@
 ghost use Rattle.std.specs.Prelude.{◌≡◌, ◌≢◌, ◌≤◌, All, IfOk, IfErr, IfSome, Ok, Err, length, map};
 ghost use Rattle.snx_blocks.specs.Documents.{IsValid};
 ghost use Rattle.snx_blocks.specs.Views.{doc_view};
-ghost use Rattle.control_doc.specs.Valid.{HasPositiveSigmas};
+ghost use Rattle.control_doc.specs.Valid.{IsPositiveAndShort, HasPositiveSigmas};
 ghost use Rattle.control_doc.specs.Views.{control_view};
 ghost use Rattle.refusal_lines.specs.Refusals.{status_of};
 ghost use Rattle.run_inputs.specs.Views.{input_view, IfTold};
@@ -53,6 +53,7 @@ pub fn combine_core<R: Threads + Sync>(
     inputs: Vec<Input<'_>>,
 ) -> Result<Combined, Refusal>
     requires valid { All (λ input. IsValid (doc_view input.doc)) inputs.items }
+    requires weights { All (λ input. IsPositiveAndShort (input_view input).plan.weight) inputs.items }
     requires few { length inputs.items ≤ 64 }
     requires positive { IfSome (control_view control.now).datum HasPositiveSigmas }
     ensures combined { IfOk result (λ combined. IsCombined (control_view control.now) (map input_view inputs.entry.items) (Ok (texts_view combined))) }

@@ -13,7 +13,6 @@ ghost use Rattle.refusal_lines.specs.declared.refusal.Refusal.TheVariants.{UnitC
 ghost use Rattle.refusal_lines.specs.Refusals.{status_of};
 ghost use Rattle.run_inputs.specs.Views.{input_view, IfTold};
 ghost use Rattle.combine_cli.specs.Combination.{apriori_rows, is_reference, counted_rows, HaveCommon};
-ghost use Rattle.combine_cli.specs.Parts.{Covers};
 
 use apriori_shift::{Apriori, CommonError, common};
 use refusal_lines::Refusal;
@@ -70,12 +69,11 @@ fn refusal_of_common(error: CommonError) -> Refusal
     }
 }
 
-// The common a priori values of the files, or the refusal of a name with two units. Each row of a file has one of its name among them.
+// The common a priori values of the files, or the refusal of a name with two units.
 pub fn common_of(alloc: Global, reference: &str, inputs: &[Input<'_>]) -> Result<Apriori, Refusal>
     requires valid { All (λ input. IsValid (doc_view input.doc)) inputs.now }
     ensures common { IfOk result (λ base. HaveCommon reference.now (map input_view inputs.now) (Ok (counted_rows reference.now (map input_view inputs.now)))) }
     ensures first { IfOk result (λ base. HasFirstRows base (counted_rows reference.now (map input_view inputs.now))) }
-    ensures covers { IfOk result (λ base. All (Covers base) (map input_view inputs.now)) }
     ensures small { IfOk result (λ base. (id : PlainId) → IsAtMost (10 ^ 12) (common_value base id)) }
     ensures refused { IfErr result (IfTold (λ refusal. HaveCommon reference.now (map input_view inputs.now) (Err refusal))) }
     ensures no_fault { IfErr result (λ refusal. status_of refusal ≢ 5) }

@@ -10,11 +10,11 @@ ghost use Rattle.bounds_report.specs.declared.numbers.Printed.{Printed};
 ghost use Rattle.snx_lines.specs.declared.blocks.FrameCause.TheVariants as frames;
 ghost use Rattle.snx_rows.specs.declared.causes.Cause.TheVariants as causes;
 ghost use Rattle.snx_blocks.specs.declared.sections.Section.TheVariants as sections;
-ghost use Rattle.recover_neq.specs.Exact.{IsExact};
-ghost use Rattle.recover_neq.specs.declared.RecoverFault.TheVariants as recovery;
+ghost use Rattle.file_recovery.specs.Recovery.{IsExact};
+ghost use Rattle.file_recovery.specs.declared.faults.FileFault.TheVariants as files;
+ghost use Rattle.named_tables.specs.declared.faults.RecoverFault.TheVariants as recovery;
 ghost use Rattle.neq_stack.specs.Systems.{NamedSystem};
 ghost use Rattle.control_doc.specs.declared.faults.ControlCause.TheVariants as controls;
-ghost use Rattle.control_doc.specs.declared.plans.Form.TheVariants as forms;
 ghost use Rattle.refusal_lines.specs.Refusals.{line_of};
 ghost use Rattle.refusal_lines.specs.declared.refusal.Scope.TheVariants as places;
 ghost use Rattle.refusal_lines.specs.declared.refusal.Refusal.TheVariants as refusals;
@@ -23,7 +23,7 @@ ghost use Rattle.combine_cli.specs.Causes.{refusal_of_recovery};
 ghost use Rattle.combine_cli.specs.Headline.{IsExactOf};
 ghost use Rattle.combine_cli.specs.Runs.{StoppedAt};
 ghost use Rattle.combine_cli.specs.Verdict.{Outcome, IsVerdict};
-ghost use Rattle.combine_cli.specs.Worked.{one, half, one_and_three_tenths, worked_name, worked_document, worked_system, worked_file, bounded_by};
+ghost use Rattle.combine_cli.specs.Worked.{one, half, one_and_three_tenths, worked_name, weighing, worked_document, worked_system, worked_file, worked_solution, freed_of_sigmas, bounded_by};
 
 /// The bounds of a row are inequalities: 1 + 1/2 lies between 1.5 and 1.5, and neither above a lower bound that is greater by one
 /// unit nor below an upper bound that is less by one. Numbers that are certified keep them in each row, the first among them,
@@ -41,11 +41,18 @@ pub fn bounds_hold_their_solutions()
 /// The exact systems of a document with the matrix .4E+04 and the right side .25 are those of 4000 x = 1/4 at its one name, and
 /// zero at every other; with the weight .5 both sides are half as great.
 pub fn exact_systems_are_as_written()
-    ensures some { IsExact worked_document one worked_system }
-    ensures matrix { (S : NamedSystem) → IsExact worked_document one S → S.a worked_name worked_name ≡ pos 4000 *ℤ pos S.q }
-    ensures vector { (S : NamedSystem) → IsExact worked_document one S → S.c worked_name *ℤ pos 4 ≡ pos S.q }
-    ensures weighted_matrix { (S : NamedSystem) → IsExact worked_document half S → S.a worked_name worked_name ≡ pos 2000 *ℤ pos S.q }
-    ensures weighted_vector { (S : NamedSystem) → IsExact worked_document half S → S.c worked_name *ℤ pos 8 ≡ pos S.q }
+    ensures some { IsExact (weighing one) worked_document worked_system }
+    ensures matrix { (S : NamedSystem) → IsExact (weighing one) worked_document S → S.a worked_name worked_name ≡ pos 4000 *ℤ pos S.q }
+    ensures vector { (S : NamedSystem) → IsExact (weighing one) worked_document S → S.c worked_name *ℤ pos 4 ≡ pos S.q }
+    ensures weighted_matrix { (S : NamedSystem) → IsExact (weighing half) worked_document S → S.a worked_name worked_name ≡ pos 2000 *ℤ pos S.q }
+    ensures weighted_vector { (S : NamedSystem) → IsExact (weighing half) worked_document S → S.c worked_name *ℤ pos 8 ≡ pos S.q }
+{}
+
+/// The exact systems of a solution with the estimate 1.5 and the information matrix 5 over one name, whose a priori value .1E+01 has the
+/// standard deviation .5, are those of 1 x = 2.5, where the constraint of the standard deviation is removed: 5 less 1/.25, and 5 times .5.
+pub fn solutions_lose_their_constraints()
+    ensures matrix { (S : NamedSystem) → IsExact freed_of_sigmas worked_solution S → S.a worked_name worked_name ≡ pos S.q }
+    ensures vector { (S : NamedSystem) → IsExact freed_of_sigmas worked_solution S → S.c worked_name *ℤ pos 2 ≡ pos 5 *ℤ pos S.q }
 {}
 
 /// The exact systems of two files with the matrices .4E+01 and .3E+01 and the right sides .2E+01 and .1E+01 over one name, whose a
@@ -82,12 +89,12 @@ pub fn refusals_are_told()
     ensures key { line_of (refusals.Control controls.Key (codes "output.agency")) ≡ codes "snxcomb: control key output.agency\n" }
     ensures syntax { line_of (refusals.Control controls.Syntax []) ≡ codes "snxcomb: control syntax\n" }
     ensures many { line_of (refusals.TooMany (places.Group (codes "north")) 1001) ≡ codes "snxcomb: too many group:north 1001\n" }
-    ensures block { line_of (refusal_of_recovery forms.Auto (codes "in") (recovery.MissingBlock sections.Apriori)) ≡ codes "snxcomb: block file:in SOLUTION/APRIORI\n" }
-    ensures needed { line_of (refusal_of_recovery forms.Neq (codes "in") (recovery.MissingBlock sections.NormalMatrix))
+    ensures block { line_of (refusal_of_recovery (codes "in") (files.MissingBlock sections.Apriori)) ≡ codes "snxcomb: block file:in SOLUTION/APRIORI\n" }
+    ensures needed { line_of (refusal_of_recovery (codes "in") (files.MissingBlock sections.NormalMatrix))
         ≡ codes "snxcomb: block file:in SOLUTION/NORMAL_EQUATION_MATRIX\n" }
-    ensures unbuilt { line_of (refusal_of_recovery forms.Auto (codes "in") (recovery.MissingBlock sections.NormalMatrix)) ≡ codes "snxcomb: unbuilt in\n" }
-    ensures unmatched { line_of (refusal_of_recovery forms.Auto (codes "in") (recovery.Unmatched worked_name)) ≡ codes "snxcomb: unmatched file:in STAX/ABCD/A/1/00:000:00000\n" }
-    ensures empty { line_of (refusal_of_recovery forms.Auto (codes "in") recovery.Empty) ≡ codes "snxcomb: empty file:in\n" }
+    ensures unbuilt { line_of (refusal_of_recovery (codes "in") files.Unbuilt) ≡ codes "snxcomb: unbuilt in\n" }
+    ensures unmatched { line_of (refusal_of_recovery (codes "in") (files.Recovery (recovery.Unmatched worked_name))) ≡ codes "snxcomb: unmatched file:in STAX/ABCD/A/1/00:000:00000\n" }
+    ensures empty { line_of (refusal_of_recovery (codes "in") (files.Recovery recovery.Empty)) ≡ codes "snxcomb: empty file:in\n" }
     ensures unit { line_of (refusals.UnitClash worked_name) ≡ codes "snxcomb: unit STAX/ABCD/A/1/00:000:00000\n" }
     ensures site { line_of (refusals.UnmatchedSite (record { code = codes "AAAA"; point = codes "A "; soln = codes "1   " })) ≡ codes "snxcomb: unmatched site AAAA/A/1\n" }
     ensures range { line_of (refusals.Range (places.File (codes "in")) worked_name worked_name)

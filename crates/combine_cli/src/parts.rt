@@ -1,36 +1,34 @@
 //! The normal equations of each file, at the common a priori values.
 
-ghost use Rattle.std.specs.Prelude.{◌≡◌, ◌≢◌, ◌*◌, ◌^◌, [], All, List, IfOk, IfErr, IsSome, Ok, Err, map};
-ghost use Rattle.std.specs.BTreeMap.{get};
+ghost use Rattle.std.specs.Prelude.{◌≡◌, ◌≢◌, ◌*◌, ◌^◌, [], All, List, IfOk, IfErr, Ok, Err, map};
 ghost use Rattle.stated_order.specs.Lists.{AreEach};
 ghost use Rattle.snx_blocks.specs.Documents.{IsValid};
 ghost use Rattle.snx_blocks.specs.Views.{doc_view};
+ghost use Rattle.control_doc.specs.Valid.{IsPositiveAndShort};
 ghost use Rattle.control_doc.specs.Views.{plan_view};
 ghost use Rattle.decimal_e.specs.Fractions.{IsAtMost};
-ghost use Rattle.param_ids.specs.Order.{id_cmp};
 ghost use Rattle.param_ids.specs.Plain.{PlainId};
+ghost use Rattle.snx_rows.specs.Named.{value_of};
 ghost use Rattle.snx_rows.specs.declared.rows.Row.{Row as PlainRow};
 ghost use Rattle.neq_stack.specs.ByName.{AreAtMost};
 ghost use Rattle.neq_stack.specs.Neqs.{IsSound, neq_view};
-ghost use Rattle.recover_neq.specs.Blocks.{value_of};
 ghost use Rattle.apriori_shift.specs.Answers.{HasFirstRows, common_value};
 ghost use Rattle.apriori_shift.specs.Shifts.{IsShift};
 ghost use Rattle.refusal_lines.specs.Refusals.{status_of};
 ghost use Rattle.run_inputs.specs.Views.{input_view, IfTold};
 ghost use Rattle.combine_cli.specs.Causes.{refusal_of_recovery, refusal_of_shift};
-ghost use Rattle.combine_cli.specs.Combination.{solution_refusal, Recovers, Shifts, IsPart, AreParts};
-ghost use Rattle.combine_cli.specs.Parts.{part_view, Covers, IsRecoveredOf, IsPartOf};
-ghost use Rattle.recover_neq.specs.declared.RecoverFault.TheVariants.{MissingBlock};
+ghost use Rattle.combine_cli.specs.Combination.{Recovers, Shifts, IsPart, AreParts};
+ghost use Rattle.combine_cli.specs.Parts.{part_view, IsRecoveredOf, IsPartOf};
 
 use crate::naming::name_at;
 use apriori_shift::{Apriori, ShiftError, shift};
-use control_doc::{FilePlan, Form};
+use control_doc::FilePlan;
+use file_recovery::{FileError, FileFault, recover};
+use named_tables::RecoverFault;
 use neq_stack::Neq;
 use param_ids::{Names, Scales};
-use recover_neq::{RecoverError, RecoverFault, recover};
 use refusal_lines::{Name, Refusal, Scope};
 use run_inputs::{Input, named};
-use snx_blocks::{Doc, Section};
 use std::alloc::Global;
 
 // A file and its normal equations at the common values.
@@ -40,35 +38,25 @@ pub struct FilePart<'a> {
     pub neq: Neq<16>,
 }
 
-// The refusal of the file of that name, which lacks a block.
-fn lacking(form: Form, name: Name, block: Section) -> Refusal
-    ensures told { result ≡ refusal_of_recovery form name (MissingBlock block) }
-    ensures no_fault { status_of result ≢ 5 }
-{
-    match (block, form) {
-        (Section::Apriori, _) | (_, Form::Neq) => Refusal::Block {
-            place: Scope::File(name),
-            block,
-        },
-        _ => Refusal::Unbuilt { name },
-    }
-}
-
 // The refusal of the file of that name, whose normal equations are not recovered.
-fn refusal_of_recovery(form: Form, name: Name, fault: &RecoverFault) -> Refusal
-    ensures told { result ≡ refusal_of_recovery form name fault.now }
+fn refusal_of_recovery(name: Name, fault: &FileFault) -> Refusal
+    ensures told { result ≡ refusal_of_recovery name fault.now }
     ensures no_fault { status_of result ≢ 5 }
 {
     match fault {
-        RecoverFault::MissingBlock { block } => lacking(form, name, *block),
-        RecoverFault::Unmatched { id } => Refusal::Unmatched {
+        FileFault::MissingBlock { block } => Refusal::Block {
+            place: Scope::File(name),
+            block: *block,
+        },
+        FileFault::Unbuilt => Refusal::Unbuilt { name },
+        FileFault::Recovery(RecoverFault::Unmatched { id }) => Refusal::Unmatched {
             place: Scope::File(name),
             id: *id,
         },
-        RecoverFault::Empty => Refusal::Empty {
+        FileFault::Recovery(RecoverFault::Empty) => Refusal::Empty {
             place: Scope::File(name),
         },
-        RecoverFault::Range { row, col } => Refusal::Range {
+        FileFault::Recovery(RecoverFault::Range { row, col }) => Refusal::Range {
             place: Scope::File(name),
             row: *row,
             col: *col,
@@ -76,40 +64,22 @@ fn refusal_of_recovery(form: Form, name: Name, fault: &RecoverFault) -> Refusal
     }
 }
 
-// The refusal of the file of that name, which is to be taken from its solution.
-fn solution_refusal(name: Name, doc: &Doc) -> Refusal
-    ensures told { result ≡ solution_refusal name (doc_view doc.now).apriori }
-    ensures no_fault { status_of result ≢ 5 }
-{
-    match &doc.apriori {
-        None => Refusal::Block {
-            place: Scope::File(name),
-            block: Section::Apriori,
-        },
-        Some(_) => Refusal::Unbuilt { name },
-    }
-}
-
 // The normal equations of a file, or why it has none.
 fn recovered(alloc: Global, scales: &Scales, input: &Input<'_>) -> Result<Neq<16>, Refusal>
-    requires { IsValid (doc_view input.now.doc) }
+    requires valid { IsValid (doc_view input.now.doc) }
+    requires weight { IsPositiveAndShort (input_view input.now).plan.weight }
     ensures recovers { IfOk result (λ neq. Recovers (input_view input.now).plan scales.now (input_view input.now).doc (Ok (neq_view neq))) }
     ensures known { IfOk result (λ neq. IsRecoveredOf scales.now (input_view input.now) (neq_view neq)) }
     ensures refused { IfErr result (IfTold (λ refusal. Recovers (input_view input.now).plan scales.now (input_view input.now).doc (Err refusal))) }
     ensures no_fault { IfErr result (λ refusal. status_of refusal ≢ 5) }
 {
-    let plan = input.plan;
-    if let Form::Solution = plan.form {
-        let name = named(alloc, plan.name.as_str())?;
-        return Err(solution_refusal(name, &input.doc));
-    }
-    match recover(alloc, &input.doc, &plan.weight, scales) {
+    match recover(alloc, &input.doc, input.plan, scales) {
         Ok(neq) => Ok(neq),
-        Err(RecoverError::Fault(fault)) => {
-            let name = named(alloc, plan.name.as_str())?;
-            Err(refusal_of_recovery(plan.form, name, &fault))
+        Err(FileError::Fault(fault)) => {
+            let name = named(alloc, input.plan.name.as_str())?;
+            Err(refusal_of_recovery(name, &fault))
         }
-        Err(RecoverError::Memory) => Err(Refusal::Memory),
+        Err(FileError::Memory) => Err(Refusal::Memory),
     }
 }
 
@@ -128,12 +98,11 @@ fn refusal_of_shift(name: Name, names: &Names, row: usize, col: usize) -> Refusa
 // Brings the normal equations of a file to the common values, or says why they are not brought there.
 fn shifted(alloc: Global, plan: &FilePlan, base: &Apriori, neq: &mut Neq<16>) -> Result<(), Refusal>
     requires sound { IsSound (neq_view neq.old) }
-    requires modest { AreAtMost (10 ^ 34) (neq_view neq.old) }
-    requires known { All (λ id. IsSome (get id_cmp base.now id)) neq.old.names }
+    requires modest { AreAtMost (2 * 10 ^ 34) (neq_view neq.old) }
     requires small { (id : PlainId) → IsAtMost (10 ^ 12) (common_value base.now id) }
     ensures shifts { (rows : List PlainRow) → HasFirstRows base.now rows → IfOk result (λ done. IsShift (map (value_of rows) neq.old.names) (neq_view neq.old) (Ok (neq_view neq.new))) }
     ensures sound { IsSound (neq_view neq.new) }
-    ensures modest { AreAtMost (2 * 10 ^ 34) (neq_view neq.new) }
+    ensures modest { AreAtMost (3 * 10 ^ 34) (neq_view neq.new) }
     ensures refused { (rows : List PlainRow) → HasFirstRows base.now rows → IfErr result (IfTold (λ refusal. Shifts (plan_view plan.now).name rows (neq_view neq.old) (Err refusal))) }
     ensures no_fault { IfErr result (λ refusal. status_of refusal ≢ 5) }
 {
@@ -155,7 +124,7 @@ fn part_of<'a>(
     input: &Input<'a>,
 ) -> Result<FilePart<'a>, Refusal>
     requires valid { IsValid (doc_view input.now.doc) }
-    requires covered { Covers base.now (input_view input.now) }
+    requires weight { IsPositiveAndShort (input_view input.now).plan.weight }
     requires small { (id : PlainId) → IsAtMost (10 ^ 12) (common_value base.now id) }
     ensures part { (rows : List PlainRow) → HasFirstRows base.now rows → IfOk result (λ part. IsPart scales.now rows [] (input_view input.now) (Ok (part_view part))) }
     ensures known { (rows : List PlainRow) → HasFirstRows base.now rows → IfOk result (λ part. IsPartOf scales.now rows (input_view input.now) (part_view part)) }
@@ -178,7 +147,7 @@ pub fn parts_of<'a>(
     inputs: Vec<Input<'a>>,
 ) -> Result<Vec<FilePart<'a>>, Refusal>
     requires valid { All (λ input. IsValid (doc_view input.doc)) inputs.items }
-    requires covered { All (Covers base.now) (map input_view inputs.items) }
+    requires weights { All (λ input. IsPositiveAndShort (input_view input).plan.weight) inputs.items }
     requires small { (id : PlainId) → IsAtMost (10 ^ 12) (common_value base.now id) }
     ensures parts { (rows : List PlainRow) → HasFirstRows base.now rows → IfOk result (λ parts. AreParts scales.now rows (map input_view inputs.entry.items) (Ok (map part_view parts.items))) }
     ensures each { (rows : List PlainRow) → HasFirstRows base.now rows → IfOk result (λ parts. AreEach (IsPartOf scales.now rows) (map input_view inputs.entry.items) (map part_view parts.items)) }

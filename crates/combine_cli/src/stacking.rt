@@ -1,6 +1,6 @@
 //! The stack of all parts, group by group.
 
-ghost use Rattle.std.specs.Prelude.{◌≡◌, ◌≢◌, ◌≤◌, ◌*◌, ◌^◌, [], All, IfOk, IfErr, Ok, Err, length, map};
+ghost use Rattle.std.specs.Prelude.{◌≡◌, ◌≢◌, ◌≤◌, ◌<◌, ◌*◌, ◌^◌, ℕ, [], All, IfOk, IfErr, Ok, Err, length, map};
 ghost use Rattle.control_doc.specs.Views.{plan_view};
 ghost use Rattle.neq_stack.specs.Neqs.{IsSound, neq_view};
 ghost use Rattle.neq_stack.specs.ByName.{AllAgree, AreAtMost};
@@ -26,7 +26,7 @@ fn stack_of_group(
 ) -> Result<Neq<16>, Refusal>
     requires sound { All IsSound (neqs_of (map part_view parts.now)) }
     requires agree { AllAgree (neqs_of (map part_view parts.now)) }
-    requires modest { All (AreAtMost (2 * 10 ^ 34)) (neqs_of (map part_view parts.now)) }
+    requires modest { All (AreAtMost (3 * 10 ^ 34)) (neqs_of (map part_view parts.now)) }
     requires few { length parts.now ≤ 64 }
     ensures stacked { IfOk result (λ neq. IsGroupStack (map part_view parts.now) [] (group_of (plan_view plan.now)) (Ok (neq_view neq))) }
     ensures refused { IfErr result (IfTold (λ refusal. IsGroupStack (map part_view parts.now) [] (group_of (plan_view plan.now)) (Err refusal))) }
@@ -51,7 +51,7 @@ fn stacks_of_groups(
 ) -> Result<Vec<Neq<16>>, Refusal>
     requires sound { All IsSound (neqs_of (map part_view parts.now)) }
     requires agree { AllAgree (neqs_of (map part_view parts.now)) }
-    requires modest { All (AreAtMost (2 * 10 ^ 34)) (neqs_of (map part_view parts.now)) }
+    requires modest { All (AreAtMost (3 * 10 ^ 34)) (neqs_of (map part_view parts.now)) }
     requires few { length parts.now ≤ 64 }
     ensures stacked { IfOk result (λ stacks. AreGroupStacks (map part_view parts.now) (map (λ plan. group_of (plan_view plan.now)) plans.now) (Ok (map neq_view stacks.items))) }
     ensures refused { IfErr result (IfTold (λ refusal. AreGroupStacks (map part_view parts.now) (map (λ plan. group_of (plan_view plan.now)) plans.now) (Err refusal))) }
@@ -83,8 +83,7 @@ fn references<'a>(alloc: Global, stacks: &'a [Neq<16>]) -> Result<Vec<&'a Neq<16
 fn stack_of_stacks(alloc: Global, stacks: &[Neq<16>]) -> Result<Neq<16>, Refusal>
     requires sound { All IsSound (map neq_view stacks.now) }
     requires agree { AllAgree (map neq_view stacks.now) }
-    requires modest { All (AreAtMost (64 * (2 * 10 ^ 34))) (map neq_view stacks.now) }
-    requires few { length stacks.now ≤ 64 }
+    requires fit { (most : ℕ) × All (AreAtMost most) (map neq_view stacks.now) × (length stacks.now * most < 10 ^ 38) }
     ensures stacked { IfOk result (λ neq. IsWholeStack (map neq_view stacks.now) (Ok (neq_view neq))) }
     ensures refused { IfErr result (IfTold (λ refusal. IsWholeStack (map neq_view stacks.now) (Err refusal))) }
     ensures no_fault { IfErr result (λ refusal. status_of refusal ≢ 5) }
@@ -104,7 +103,7 @@ fn stack_of_stacks(alloc: Global, stacks: &[Neq<16>]) -> Result<Neq<16>, Refusal
 pub fn stack_of_parts(alloc: Global, parts: &[FilePart<'_>]) -> Result<Neq<16>, Refusal>
     requires sound { All IsSound (neqs_of (map part_view parts.now)) }
     requires agree { AllAgree (neqs_of (map part_view parts.now)) }
-    requires modest { All (AreAtMost (2 * 10 ^ 34)) (neqs_of (map part_view parts.now)) }
+    requires modest { All (AreAtMost (3 * 10 ^ 34)) (neqs_of (map part_view parts.now)) }
     requires few { length parts.now ≤ 64 }
     ensures stacked { IfOk result (λ neq. StacksParts (map part_view parts.now) (Ok (neq_view neq))) }
     ensures whole { IfOk result (λ neq. IsStackOf (neqs_of (map part_view parts.now)) (neq_view neq)) }

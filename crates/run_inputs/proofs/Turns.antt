@@ -24,7 +24,7 @@ here files before plan limit left r is together h =
     subst (λ n. IsInputWithin n files plan r) (is ∙ ap (min file_limit) rest) h
 
 -- a list up to a member, and with it; and the whole from it on
-upto_more : {X Y : Type 0} (view : X → Y) (xs : List X) (i : ℕ) (x : X) → i < length xs → x ≡ get_or xs i x → map view (take i xs) ++ (view x ∷ []) ≡ map view (take (i + 1) xs)
+pub upto_more : {X Y : Type 0} (view : X → Y) (xs : List X) (i : ℕ) (x : X) → i < length xs → x ≡ get_or xs i x → map view (take i xs) ++ (view x ∷ []) ≡ map view (take (i + 1) xs)
 upto_more view xs i x lt is =
     sym (map-append view (take i xs) (x ∷ [])) ∙ ap (λ y. map view (take i xs ++ (y ∷ []))) is ∙ sym (ap (map view) (take_more xs i x lt))
 

@@ -76,6 +76,7 @@ fn read_input<'a, R: Threads + Sync, D: Desk>(
 ) -> Result<Input<'a>, Refusal>
     requires { limit ≤ 2 ^ 26 }
     ensures input { IsTrue D.tells → IfOk result (λ input. IsInputWithin limit (D.content desk.old).files (plan_view plan.now) (Ok (input_view input))) }
+    ensures plan { IfOk result (λ input. (input_view input).plan ≡ plan_view plan.now) }
     ensures valid { IfOk result (λ input. IsValid (doc_view input.doc)) }
     ensures short { IfOk result (λ input. input.size ≤ limit) }
     ensures refused { IsTrue D.tells → IfErr result (IfTold (λ refusal. IsInputWithin limit (D.content desk.old).files (plan_view plan.now) (Err refusal))) }
@@ -96,6 +97,7 @@ fn read_in_turn<'a, R: Threads + Sync, D: Desk>(
     desk: &mut D,
 ) -> Result<Vec<Input<'a>>, Refusal>
     ensures inputs { IsTrue D.tells → IfOk result (λ inputs. AreInputs (D.content desk.old).files (map (λ plan. plan_view plan.now) plans.now) (Ok (map input_view inputs.items))) }
+    ensures plans { IfOk result (λ inputs. map (λ input. (input_view input).plan) inputs.items ≡ map (λ plan. plan_view plan.now) plans.now) }
     ensures count { IfOk result (λ inputs. length inputs.items ≡ length plans.now) }
     ensures valid { IfOk result (λ inputs. All (λ input. IsValid (doc_view input.doc)) inputs.items) }
     ensures refused { IsTrue D.tells → IfErr result (IfTold (λ refusal. AreInputs (D.content desk.old).files (map (λ plan. plan_view plan.now) plans.now) (Err refusal))) }
@@ -129,6 +131,7 @@ pub fn read_inputs<'a, R: Threads + Sync, D: Desk>(
 ) -> Result<Vec<Input<'a>>, Refusal>
     requires { IsValidControl (control_view control.now) }
     ensures inputs { IsTrue D.tells → IfOk result (λ inputs. ReadsInputs (control_view control.now).files (D.content desk.old).files (Ok (map input_view inputs.items))) }
+    ensures plans { IfOk result (λ inputs. AreInNameOrder (control_view control.now).files (map (λ input. (input_view input).plan) inputs.items)) }
     ensures count { IfOk result (λ inputs. length inputs.items ≡ length control.now.files.items) }
     ensures valid { IfOk result (λ inputs. All (λ input. IsValid (doc_view input.doc)) inputs.items) }
     ensures refused { IsTrue D.tells → IfErr result (IfTold (λ refusal. ReadsInputs (control_view control.now).files (D.content desk.old).files (Err refusal))) }

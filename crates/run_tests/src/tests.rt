@@ -27,7 +27,7 @@ END
 ";
 
 // Each row has an a priori value, a matrix element and a vector element, and then the numbers of the certificate and of the
-// parameter's line, or the line of its refusal. tools/solve.py computes them, apart from this program.
+// parameter's line, or the line of its refusal. tools/combine.py computes them, apart from this program.
 const ROWS: &str = "\
 -.123456789012345E+03 | .70000000000000E+01 | -.250000000000000E+01 | g=40 B=1 M=1 | -123.8139318694881000 -123.8139318694877000 100000000000000000E-29
 0 | 1.5E-18 | 1E-20 | g=40 B=357913942 M=4445 | -0.3335000000000000 1.0001000000000000 66670000000000000000E-38
@@ -67,6 +67,37 @@ const MOVED: (&str, &str) = (
     "g=40 B=1 M=0",
     "1.6500000000000000 1.6500000000000000 0E-29",
 );
+
+// Of 5 (x - 1) = 2.5, which a solution gives, and of 1 (x - 1) = 2.5, without the constraint of its standard deviation; and of the latter
+// with 4 (x - 1) = 2.
+const ESTIMATED: (&str, &str) = (
+    "g=40 B=1 M=0",
+    "1.5000000000000000 1.5000000000000000 0E-29",
+);
+
+const FREED: (&str, &str) = (
+    "g=40 B=1 M=1",
+    "3.4999999999970000 3.5000000000010000 1000000000000000000E-30",
+);
+
+const FREED_AND_FOUR: (&str, &str) = (
+    "g=40 B=1 M=0",
+    "1.9000000000000000 1.9000000000000000 0E-29",
+);
+
+// A solution of one parameter: the estimate 1.5, the information matrix 5, and the a priori value 1 with the standard deviation .5.
+const SOLUTION: &str = "%=SNX 2.02
++SOLUTION/ESTIMATE
+     1 STAX   ABCD  A    1 24:001:00000 m    2                   1.5 .100000E+00
+-SOLUTION/ESTIMATE
++SOLUTION/APRIORI
+     1 STAX   ABCD  A    1 24:001:00000 m    2                     1 .500000E+00
+-SOLUTION/APRIORI
++SOLUTION/MATRIX_ESTIMATE L INFO
+     1     1                     5
+-SOLUTION/MATRIX_ESTIMATE L INFO
+%ENDSNX
+";
 
 // A station without observations, and the report of its coordinates where rows of a datum hold them.
 const FREE_STATION: &str = "%=SNX 2.02
@@ -251,8 +282,8 @@ fn control_of(alloc: Global, files: &str) -> Result<String, AllocError> {
     Ok(text)
 }
 
-// A desk with that control file, five files of one parameter, and one of a station: the matrices of the five are 4, 3, 1, 2 and 4, their
-// right sides 2, 1, 0, 1 and 2, and the last has the a priori value 1.3.
+// A desk with that control file, five files of one parameter, one of a station, and a solution: the matrices of the five are 4, 3, 1, 2
+// and 4, their right sides 2, 1, 0, 1 and 2, and the last has the a priori value 1.3.
 fn files_on_desk(alloc: Global, control: &str) -> Result<MemDesk, AllocError> {
     let mut desk = MemDesk::new(alloc, Vec::new(alloc));
     desk.add_file("con", control.as_bytes())?;
@@ -267,6 +298,7 @@ fn files_on_desk(alloc: Global, control: &str) -> Result<MemDesk, AllocError> {
         desk.add_file(name, text.as_bytes())?;
     }
     desk.add_file("free", FREE_STATION.as_bytes())?;
+    desk.add_file("s", SOLUTION.as_bytes())?;
     Ok(desk)
 }
 
@@ -286,6 +318,9 @@ fn combines(rt: HostRuntime) -> Result<(), Fail> {
         ("a weight = '.5'; d weight = '.5'; c weight = '.5'", HALVED),
         ("e; a", MOVED),
         ("a; e [run]\nreference = 'e'", MOVED),
+        ("s", ESTIMATED),
+        ("s constraints = 'sigma'", FREED),
+        ("s constraints = 'sigma'; a", FREED_AND_FOUR),
     ] {
         let control = control_of(alloc, files)?;
         let mut desk = files_on_desk(alloc, control.as_str())?;
@@ -330,7 +365,7 @@ fn refuses<R: Threads + Sync + Abort + AllocGlobal>(
     let before = files_on_desk(alloc, control)?;
     let mut desk = files_on_desk(alloc, control)?;
     ends(rt, &mut desk, line, status, said, None)?;
-    for name in ["con", "a", "b", "c", "d", "e", "free", "out"] {
+    for name in ["con", "a", "b", "c", "d", "e", "free", "s", "out"] {
         assert_eq!(rt; desk.file(name), before.file(name));
     }
     Ok(())
@@ -373,7 +408,18 @@ fn controls_are_refused(rt: HostRuntime) -> Result<(), Fail> {
             "none; c [[reduce]]\nat = 'end'\nparam = ['STAX', 'ABCD', 'A', '1', '24:001:00000']",
             "snxcomb: unbuilt con\n",
         ),
-        ("c form = 'solution'; b", "snxcomb: unbuilt c\n"),
+        (
+            "c form = 'solution'; b",
+            "snxcomb: block file:c SOLUTION/ESTIMATE\n",
+        ),
+        (
+            "s constraints = 'matrix'; c",
+            "snxcomb: block file:s SOLUTION/MATRIX_APRIORI\n",
+        ),
+        (
+            "s form = 'neq'",
+            "snxcomb: block file:s SOLUTION/NORMAL_EQUATION_VECTOR\n",
+        ),
         (
             "free [datum]\nsites = [['AAAA', 'A', '1'], ['AAAA', 'A', '2']]\nscale = '.001'",
             "snxcomb: unmatched site AAAA/A/2\n",

@@ -41,7 +41,16 @@ pub(crate) fn neq_of(alloc: Global, doc: &Doc) -> Result<Neq<16>>
     let Some(weight) = Dec::new(1, 0) else {
         bail!("no decimal is 1");
     };
-    Ok(recover(alloc, doc, &weight, &scales)?)
+    let Some(apriori) = &doc.apriori else {
+        bail!("the file has no a priori values");
+    };
+    let Some(vector) = &doc.vector else {
+        bail!("the file has no right side");
+    };
+    let Some(matrix) = &doc.normal_matrix else {
+        bail!("the file has no matrix of normal equations");
+    };
+    Ok(recover(alloc, apriori, vector, &matrix.cells, &weight, &scales)?)
 }
 
 // The working table of normal equations.

@@ -28,10 +28,6 @@ positive_seen (Some given) datum e h = subst (λ (o : Option Datum). IfSome (opt
 pub with_datum-requires-clause-positive : goal.with_datum-requires-clause-positive
 with_datum-requires-clause-positive g c = positive_seen c.as_ref.result c.args.control.now.datum c.as_ref.ensures.value c.requires.positive
 
--- ---- the parts of the files
-pub parts_of-requires-clause-covered : goal.parts_of-requires-clause-covered
-parts_of-requires-clause-covered g c = rw c.deref.ensures.value at c.in_ok-base.ensures.covers
-
 -- ---- the stack of the parts
 pub stack_of_parts-requires-clause-sound : goal.stack_of_parts-requires-clause-sound
 stack_of_parts-requires-clause-sound g c =

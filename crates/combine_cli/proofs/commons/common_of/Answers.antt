@@ -8,7 +8,7 @@ use Rattle.run_inputs.specs.Views.{input_view}
 use Rattle.apriori_shift.specs.Answers.{HasFirstRows}
 use Rattle.apriori_shift.specs.Common.{IsCommon}
 use Rattle.combine_cli.specs.Combination.{counted_rows}
-use Rattle.combine_cli.proofs.CountedLaws.{counted_common, all_covered, common_modest}
+use Rattle.combine_cli.proofs.CountedLaws.{counted_common, common_modest}
 use Rattle.combine_cli.proofs.commons.common_of.Goals as goal
 use Rattle.combine_cli.proofs.commons.common_of.Goals.{After-drop-files}
 
@@ -19,9 +19,6 @@ counted c =
 
 pub returns-in-Ok-clause-common : goal.returns-in-Ok-clause-common
 returns-in-Ok-clause-common c = (counted c).0
-
-pub returns-in-Ok-clause-covers : goal.returns-in-Ok-clause-covers
-returns-in-Ok-clause-covers c = all_covered c.in-Ok.base c.args.reference.now (map input_view c.args.inputs.now) (counted c).1
 
 pub returns-in-Ok-clause-small : goal.returns-in-Ok-clause-small
 returns-in-Ok-clause-small c =

@@ -2,16 +2,13 @@ use Rattle.std.proofs.Common.{refl}
 use Rattle.std.proofs.lemmas.Result.{err_from_is_err_and}
 use Rattle.neq_stack.specs.Neqs.{neq_view}
 use Rattle.run_inputs.specs.Views.{input_view}
-use Rattle.combine_cli.proofs.ShiftedParts.{names_covered, part_given, part_not_shifted, part_not_recovered, part_known}
+use Rattle.combine_cli.proofs.ShiftedParts.{part_given, part_not_shifted, part_not_recovered, part_known}
 use Rattle.combine_cli.proofs.parts.part_of.Goals as goal
 
 pub returns-in_err-neq-clause-refused : goal.returns-in_err-neq-clause-refused
 returns-in_err-neq-clause-refused c = λ rows first.
     let p = err_from_is_err_and c.from_residual.result c.from_residual.ensures.1 in
     rw (p.1, p.2) (λ a b. part_not_recovered c.args.scales.now rows (input_view c.args.input.now) _ (c.in_err-neq.ensures.refused a b))
-
-pub shifted-requires-clause-known : goal.shifted-requires-clause-known
-shifted-requires-clause-known c = names_covered c.args.scales.now (input_view c.args.input.now) (neq_view c.in_ok-neq.neq) c.in_ok-neq.ensures.known c.args.base.now c.requires.covered
 
 pub returns-in_err-shifted-clause-refused : goal.returns-in_err-shifted-clause-refused
 returns-in_err-shifted-clause-refused c = λ rows first.

@@ -1,4 +1,4 @@
-use Rattle.std.proofs.Common.{◌≡◌, ◌++◌, ◌∷◌, [], List, length, map, take, Ok, sym}
+use Rattle.std.proofs.Common.{◌≡◌, ◌++◌, ◌∷◌, [], List, length, map, take, Ok, sym, subst}
 use Rattle.std.proofs.lemmas.Iterator.Adapters.{YieldsList-from_vec}
 use Rattle.std.proofs.lemmas.Iterator.Consumers.{YieldsList-turn}
 use Rattle.std.proofs.lemmas.List.{length_push}
@@ -6,20 +6,22 @@ use Rattle.std.proofs.lemmas.Result.{err_from_is_err_and}
 use Rattle.stated_order.specs.Lists.{AreEach}
 use Rattle.snx_rows.specs.declared.rows.Row.{Row}
 use Rattle.apriori_shift.specs.Answers.{HasFirstRows}
+use Rattle.control_doc.specs.Valid.{IsPositiveAndShort}
 use Rattle.run_inputs.specs.Views.{input_view}
+use Rattle.run_inputs.specs.declared.inputs.Input.{Input}
 use Rattle.combine_cli.specs.Combination.{IsPart, AreParts}
-use Rattle.combine_cli.specs.Parts.{part_view, Covers, IsPartOf}
-use Rattle.combine_cli.proofs.PartLaws.{mapped_at, pushed_whole, part_more, known_more}
+use Rattle.combine_cli.specs.Parts.{part_view, IsPartOf}
+use Rattle.combine_cli.proofs.PartLaws.{pushed_whole, part_more, known_more}
 use Rattle.combine_cli.proofs.TurnLaws.{turn_stops}
 use Rattle.combine_cli.proofs.parts.parts_of.Goals as goal
 use Rattle.combine_cli.proofs.parts.parts_of.Goals.{Else-is_err}
 
-pub part_of-requires-clause-covered : goal.part_of-requires-clause-covered
-part_of-requires-clause-covered c =
+pub part_of-requires-clause-weight : goal.part_of-requires-clause-weight
+part_of-requires-clause-weight c =
     let items = c.args.inputs.items in
     let given = YieldsList-from_vec {s = c.into_iter-input-iterator.result} items (cc) (cc) in
     let t = YieldsList-turn given c.loop-input.yielded c.loop-input.input-iterator c.loop-input.yielded_by c.next.result c.next.new.self c.in-Some.input c.in-Some.is c.next.ensures.steps in
-    mapped_at input_view (Covers c.args.base.now) items (length c.loop-input.yielded) c.in-Some.input t.0 t.1 c.requires.covered
+    subst (λ (input : Input). IsPositiveAndShort (input_view input).plan.weight) (sym t.1) (c.requires.weights (length c.loop-input.yielded) c.in-Some.input t.0)
 
 pub returns-in_err-part-clause-refused : goal.returns-in_err-part-clause-refused
 returns-in_err-part-clause-refused c = λ rows first.

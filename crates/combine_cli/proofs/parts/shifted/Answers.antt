@@ -4,11 +4,12 @@ use Rattle.neq_stack.specs.Neqs.{PlainNeq, neq_view}
 use Rattle.apriori_shift.specs.Answers.{common_value}
 use Rattle.apriori_shift.specs.Shifts.{IsShift}
 use Rattle.combine_cli.specs.Causes.{refusal_of_shift}
-use Rattle.combine_cli.proofs.ShiftedParts.{first_values, common_small, at_most_weaker, range_told}
+use Rattle.file_recovery.proofs.KnownLaws.{at_most_weaker}
+use Rattle.combine_cli.proofs.ShiftedParts.{first_values, common_small, range_told}
 use Rattle.combine_cli.proofs.parts.shifted.Goals as goal
 
 pub shift-requires : goal.shift-requires
-shift-requires c = (omega arith, (c.requires.sound, (at_most_weaker _ _ _ (omega arith) c.requires.modest, (c.requires.known, common_small c.args.base.now c.args.neq.now.names c.requires.small))))
+shift-requires c = (omega arith, (c.requires.sound, (at_most_weaker _ _ _ (omega arith) c.requires.modest, common_small c.args.base.now c.args.neq.now.names c.requires.small)))
 
 pub returns-in-Ok-clause-shifts : goal.returns-in-Ok-clause-shifts
 returns-in-Ok-clause-shifts c = λ rows first.

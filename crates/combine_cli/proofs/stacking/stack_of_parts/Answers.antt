@@ -1,13 +1,16 @@
-use Rattle.std.proofs.Common.{◌≤◌, ◌*◌, ◌^◌, Bor, map, length, Ok, ap, arith}
+use Rattle.std.proofs.Common.{◌≤◌, ◌<◌, ◌*◌, ◌^◌, ℕ, Bor, List, map, length, Ok, ap, arith, sym, subst}
+use Rattle.std.specs.Prelude.{All}
 use Rattle.std.proofs.lemmas.List.{length-map}
 use Rattle.control_doc.specs.Views.{plan_view}
 use Rattle.control_doc.specs.declared.plans.FilePlan.{FilePlan}
+use Rattle.neq_stack.specs.ByName.{AreAtMost}
 use Rattle.neq_stack.specs.Neqs.{neq_view}
+use Rattle.neq_stack.specs.declared.Neq.{Neq}
 use Rattle.combine_cli.specs.Combination.{Group, group_of}
 use Rattle.combine_cli.specs.Parts.{part_view}
 use Rattle.combine_cli.proofs.AlikeLaws.{whole_is_of_parts}
-use Rattle.combine_cli.proofs.GroupStacks.{stacks_sound, stacks_agree, stacks_modest, stacks_few, parts_stack}
-use Rattle.combine_cli.proofs.StackBounds.{whole_modest}
+use Rattle.combine_cli.proofs.GroupStacks.{stacks_sound, stacks_agree, parts_stack}
+use Rattle.combine_cli.proofs.StackBounds.{stacks_fit, whole_modest}
 use Rattle.combine_cli.proofs.stacking.stack_of_parts.Goals as goal
 
 abbrev group_at : Bor FilePlan → Group
@@ -23,18 +26,17 @@ stack_of_stacks-requires-clause-agree c =
     rw c.deref-2.ensures.value
     (stacks_agree (map part_view c.args.parts.now) (map group_at c.in_ok-plans.plans.items) (map neq_view c.in_ok-stacks.stacks.items) (rw c.deref.ensures.value at c.in_ok-stacks.ensures.stacked) c.requires.agree)
 
-pub stack_of_stacks-requires-clause-modest : goal.stack_of_stacks-requires-clause-modest
-stack_of_stacks-requires-clause-modest c =
-    let few : length (map part_view c.args.parts.now) ≤ 64 = omega (arith, length-map c.args.parts.now part_view) in
-    rw c.deref-2.ensures.value
-    (stacks_modest (map part_view c.args.parts.now) (map group_at c.in_ok-plans.plans.items) (map neq_view c.in_ok-stacks.stacks.items) (rw c.deref.ensures.value at c.in_ok-stacks.ensures.stacked) (2 * 10 ^ 34) c.requires.modest few)
-
-pub stack_of_stacks-requires-clause-few : goal.stack_of_stacks-requires-clause-few
-stack_of_stacks-requires-clause-few c =
+pub stack_of_stacks-requires-clause-fit : goal.stack_of_stacks-requires-clause-fit
+stack_of_stacks-requires-clause-fit c =
+    let parts = map part_view c.args.parts.now in
     let plans = c.in_ok-plans.plans.items in
     let stacks = c.in_ok-stacks.stacks.items in
-    let as_many = stacks_few (map part_view c.args.parts.now) (map group_at plans) (map neq_view stacks) (rw c.deref.ensures.value at c.in_ok-stacks.ensures.stacked) in
-    omega (arith, ap length c.deref-2.ensures.value, as_many, length-map plans group_at, length-map stacks neq_view, c.in_ok-plans.ensures.few)
+    let long = length-map c.args.parts.now part_view in
+    let fit =
+    stacks_fit parts (map group_at plans) (map neq_view stacks) c.in_ok-plans.ensures.groups (rw c.deref.ensures.value at c.in_ok-stacks.ensures.stacked) c.requires.modest
+    (omega (arith, long, length-map plans group_at, c.in_ok-plans.ensures.few)) (omega (arith, long)) in
+    subst (λ (l : List (Neq 16)). (most : ℕ) × All (AreAtMost most) (map neq_view l) × (length l * most < 10 ^ 38)) (sym c.deref-2.ensures.value)
+    (fit.0, fit.1, subst (λ n. n * fit.0 < 10 ^ 38) (length-map stacks neq_view) fit.2)
 
 pub returns-clause-whole : goal.returns-clause-whole
 returns-clause-whole c =

@@ -13,6 +13,7 @@ use Rattle.run_inputs.proofs.inputs.read_in_turn.Given as goal
 abbrev pub invariant-loop-plan : goal.invariant-loop-plan
 invariant-loop-plan g l = record {
   left : l.left + bytes_of (map input_view l.inputs.items) ≡ total_limit;
+  plans : map (λ input. (input_view input).plan) l.inputs.items ≡ map (λ plan. plan_view plan.now) (take l.plan-index l.plans);
   count : length l.inputs.items ≡ l.plan-index;
   valid : All (λ input. IsValid (doc_view input.doc)) l.inputs.items;
   keeps : IsTrue g.D.Desk.tells → KeepsAll (g.D.Desk.content l.fn.desk) (g.D.Desk.content l.desk);

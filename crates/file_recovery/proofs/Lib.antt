@@ -1,0 +1,4 @@
+pub mod SourceLaws
+pub mod RecoveryLaws
+pub mod MadeLaws
+pub mod KnownLaws
