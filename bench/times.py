@@ -2,6 +2,7 @@
 """Times the proved solve beside the same cubic loops in C++, in one run, and prints the ratios.
 
     bench/times.py kernels [ROWS ..]    factor, columns and defects; the default is 300 and 900 rows
+    bench/times.py inverse [ROWS ..]    the enclosed inverse, as of covariances; the default is 300 and 900 rows
     bench/times.py solve [ROWS ..]      the whole program on files that bench/make_file.py writes; the default is 30, 300 and 900
     bench/times.py read [ROWS ..]       reading such files, with one value on a matrix line and with three; the default is 900
     bench/times.py combine [FILES ROWS SHARED]   a combination of networks; the default is 8 files of 300 unknowns, 210 in all
@@ -67,7 +68,7 @@ def steps(program, words):
     text, _, peak = run([program, *words])
     t = numbers(text)
     t["columns"] = t["pilot"] - t["factor"]
-    t["defects"] = t["check"]
+    t["defects"] = t["rows"] + t["check"]
     t["memory"] = peak
     return t
 
@@ -94,6 +95,21 @@ def kernels(program, yardstick, sizes):
         print(f"  memory {mine['memory']:.0f} MB")
 
 
+def inverse(program, yardstick, sizes):
+    found = {}
+    for rows in sizes:
+        mine, theirs, memory = [], [], 0
+        for _ in range(RUNS if rows < 600 else 2):
+            text, _, peak = run([program, "inverse", str(rows)])
+            mine.append(numbers(text)["inverse"])
+            theirs.append(sum(yardstick_steps(yardstick, rows).values()))
+            memory = max(memory, peak)
+        found[rows] = min(mine)
+        print(f"{rows} rows: the inverse {min(mine):.0f} ms, the yardstick's three loops {min(theirs):.0f} ms, ratio {min(mine) / min(theirs):.2f}; memory {memory:.0f} MB")
+    for less, more in zip(sizes, sizes[1:]):
+        print(f"{more} rows beside {less}: {found[more] / found[less]:.1f} times")
+
+
 def solve(program, solver, yardstick, sizes, folder):
     for rows in sizes:
         file = folder / f"{rows}.snx"
@@ -107,10 +123,10 @@ def solve(program, solver, yardstick, sizes, folder):
             wholes.append(whole)
             memory = max(memory, peak)
         mine, theirs = least(mine), least(theirs)
-        mine["print"] = mine["solve"] - sum(mine[step] for step in ("tables", "pilot", "vector", "check"))
+        mine["print"] = mine["solve"] - sum(mine[step] for step in ("tables", "pilot", "rows", "vector", "check"))
         loops = sum(theirs.values())
         print(f"{rows} rows, in milliseconds:")
-        print("  " + ", ".join(f"{step} {mine[step]:.0f}" for step in ("read", "recover", "tables", "factor", "columns", "vector", "check", "print")))
+        print("  " + ", ".join(f"{step} {mine[step]:.0f}" for step in ("read", "recover", "tables", "factor", "columns", "rows", "vector", "check", "print")))
         ratio = f"{min(wholes) / loops:.2f}" if loops >= 10 else "too short to tell"
         print(f"  the whole program {min(wholes):.0f}; the yardstick's loops {loops:.0f}; ratio {ratio}; memory {memory:.0f} MB")
 
@@ -245,6 +261,8 @@ def main(what, sizes):
         program = build("step_times", ["table", "3", "quiet"])
         if what == "kernels":
             kernels(program, compiled(folder, "kernels"), sizes or [300, 900])
+        elif what == "inverse":
+            inverse(program, compiled(folder, "kernels"), sizes or [300, 900])
         elif what == "values":
             values(program, built_solver(), sizes or [8, 900], folder)
             datum(program, built_solver(), 300, folder)

@@ -18,10 +18,14 @@ use Rattle.refusal_lines.specs.declared.refusal.Refusal.TheVariants.{Block, Unma
 -- the refusal of a file of this name, whose normal equations are not recovered
 abbrev pub refusal_of_recovery : List ℕ → FileFault → Refusal
 refusal_of_recovery name (files.MissingBlock block) = Block (File name) block
-refusal_of_recovery name files.Unbuilt = Unbuilt name
 refusal_of_recovery name (files.Recovery (recovery.Unmatched id)) = Unmatched (File name) id
+refusal_of_recovery name (files.Recovery recovery.Unbuilt) = Unbuilt name
 refusal_of_recovery name (files.Recovery recovery.Empty) = Empty (File name)
 refusal_of_recovery name (files.Recovery (recovery.Range row col)) = Range (File name) row col
+refusal_of_recovery name (files.Recovery (recovery.Pivot id)) = Pivot (File name) id
+refusal_of_recovery name (files.Recovery (recovery.Condition id)) = Condition (File name) id
+refusal_of_recovery name (files.Recovery (recovery.Residual id size)) = Residual (File name) id size
+refusal_of_recovery name (files.Recovery (recovery.Defect id parts)) = Defect (File name) id parts
 
 -- the refusal of a file of this name, whose normal equations with these names are not brought to the common a priori values
 abbrev pub refusal_of_shift : List ℕ → List PlainId → Place → Refusal

@@ -43,9 +43,10 @@ fn workers_of(control: &Control) -> usize
 ///
 /// # Errors
 ///
-/// The first refusal, in this order: UnitClash for the least name with two units; for each file in turn Block, Unbuilt, Unmatched,
-/// Empty, Range, and then the Range of its way to the common a priori values; for each group TooMany, and then TooMany for the whole
-/// stack; UnmatchedSite and Range of the datum; then the rules' Range, Pivot, Condition, Residual and Defect; or want of memory.
+/// The first refusal, in this order: UnitClash for the least name with two units; for each file in turn Block, Unmatched, Empty, Unbuilt,
+/// Range, Pivot, Condition, Residual and Defect, and then the Range of its way to the common a priori values; for each group TooMany, and
+/// then TooMany for the whole stack; UnmatchedSite and Range of the datum; then the rules' Range, Pivot, Condition, Residual and Defect; or
+/// want of memory.
 pub fn combine_core<R: Threads + Sync>(
     rt: &R,
     alloc: Global,
@@ -62,10 +63,11 @@ pub fn combine_core<R: Threads + Sync>(
     ensures no_fault { IfErr result (λ refusal. status_of refusal ≢ 5) }
 {
     let base = common_of(alloc, control.reference.as_str(), &inputs)?;
-    let parts = parts_of(alloc, &control.scales, &base, inputs)?;
+    let workers = workers_of(control);
+    let parts = parts_of(rt, alloc, &control.scales, &base, inputs, workers)?;
     let mut neq = stack_of_parts(alloc, &parts)?;
     with_datum(alloc, control.datum.as_ref(), &mut neq)?;
-    let report = report_of(rt, alloc, &neq, workers_of(control))?;
+    let report = report_of(rt, alloc, &neq, workers)?;
     Ok(Combined {
         out: Vec::new(alloc),
         report,

@@ -1,6 +1,6 @@
 //! The normal equations of each file, at the common a priori values.
 
-ghost use Rattle.std.specs.Prelude.{◌≡◌, ◌≢◌, ◌*◌, ◌^◌, [], All, List, IfOk, IfErr, Ok, Err, map};
+ghost use Rattle.std.specs.Prelude.{◌≡◌, ◌≢◌, ◌≤◌, ◌*◌, ◌^◌, [], All, List, IfOk, IfErr, Ok, Err, map};
 ghost use Rattle.stated_order.specs.Lists.{AreEach};
 ghost use Rattle.snx_blocks.specs.Documents.{IsValid};
 ghost use Rattle.snx_blocks.specs.Views.{doc_view};
@@ -16,6 +16,7 @@ ghost use Rattle.apriori_shift.specs.Answers.{HasFirstRows, common_value};
 ghost use Rattle.apriori_shift.specs.Shifts.{IsShift};
 ghost use Rattle.refusal_lines.specs.Refusals.{status_of};
 ghost use Rattle.run_inputs.specs.Views.{input_view, IfTold};
+ghost use Rattle.file_recovery.specs.declared.faults.FileFault.TheVariants.{Recovery};
 ghost use Rattle.combine_cli.specs.Causes.{refusal_of_recovery, refusal_of_shift};
 ghost use Rattle.combine_cli.specs.Combination.{Recovers, Shifts, IsPart, AreParts};
 ghost use Rattle.combine_cli.specs.Parts.{part_view, IsRecoveredOf, IsPartOf};
@@ -30,12 +31,53 @@ use param_ids::{Names, Scales};
 use refusal_lines::{Name, Refusal, Scope};
 use run_inputs::{Input, named};
 use std::alloc::Global;
+use std::thread::Threads;
 
 // A file and its normal equations at the common values.
 #[derive(Drop)]
 pub struct FilePart<'a> {
     pub plan: &'a FilePlan,
     pub neq: Neq<16>,
+}
+
+// The refusal of the file of that name, whose blocks give no normal equations.
+fn refusal_of_blocks(name: Name, fault: &RecoverFault) -> Refusal
+    ensures told { result ≡ refusal_of_recovery name (Recovery fault.now) }
+    ensures no_fault { status_of result ≢ 5 }
+{
+    match fault {
+        RecoverFault::Unmatched { id } => Refusal::Unmatched {
+            place: Scope::File(name),
+            id: *id,
+        },
+        RecoverFault::Unbuilt => Refusal::Unbuilt { name },
+        RecoverFault::Empty => Refusal::Empty {
+            place: Scope::File(name),
+        },
+        RecoverFault::Range { row, col } => Refusal::Range {
+            place: Scope::File(name),
+            row: *row,
+            col: *col,
+        },
+        RecoverFault::Pivot { id } => Refusal::Pivot {
+            place: Scope::File(name),
+            id: *id,
+        },
+        RecoverFault::Condition { id } => Refusal::Condition {
+            place: Scope::File(name),
+            id: *id,
+        },
+        RecoverFault::Residual { id, size } => Refusal::Residual {
+            place: Scope::File(name),
+            id: *id,
+            size: *size,
+        },
+        RecoverFault::Defect { id, parts } => Refusal::Defect {
+            place: Scope::File(name),
+            id: *id,
+            parts: *parts,
+        },
+    }
 }
 
 // The refusal of the file of that name, whose normal equations are not recovered.
@@ -48,32 +90,28 @@ fn refusal_of_recovery(name: Name, fault: &FileFault) -> Refusal
             place: Scope::File(name),
             block: *block,
         },
-        FileFault::Unbuilt => Refusal::Unbuilt { name },
-        FileFault::Recovery(RecoverFault::Unmatched { id }) => Refusal::Unmatched {
-            place: Scope::File(name),
-            id: *id,
-        },
-        FileFault::Recovery(RecoverFault::Empty) => Refusal::Empty {
-            place: Scope::File(name),
-        },
-        FileFault::Recovery(RecoverFault::Range { row, col }) => Refusal::Range {
-            place: Scope::File(name),
-            row: *row,
-            col: *col,
-        },
+        FileFault::Recovery(fault) => refusal_of_blocks(name, fault),
     }
 }
 
 // The normal equations of a file, or why it has none.
-fn recovered(alloc: Global, scales: &Scales, input: &Input<'_>) -> Result<Neq<16>, Refusal>
+fn recovered<R: Threads + Sync>(
+    rt: &R,
+    alloc: Global,
+    scales: &Scales,
+    input: &Input<'_>,
+    workers: usize,
+) -> Result<Neq<16>, Refusal>
     requires valid { IsValid (doc_view input.now.doc) }
     requires weight { IsPositiveAndShort (input_view input.now).plan.weight }
+    requires some_workers { 1 ≤ workers }
+    requires few_workers { workers ≤ 16 }
     ensures recovers { IfOk result (λ neq. Recovers (input_view input.now).plan scales.now (input_view input.now).doc (Ok (neq_view neq))) }
     ensures known { IfOk result (λ neq. IsRecoveredOf scales.now (input_view input.now) (neq_view neq)) }
     ensures refused { IfErr result (IfTold (λ refusal. Recovers (input_view input.now).plan scales.now (input_view input.now).doc (Err refusal))) }
     ensures no_fault { IfErr result (λ refusal. status_of refusal ≢ 5) }
 {
-    match recover(alloc, &input.doc, input.plan, scales) {
+    match recover(rt, alloc, &input.doc, input.plan, scales, workers) {
         Ok(neq) => Ok(neq),
         Err(FileError::Fault(fault)) => {
             let name = named(alloc, input.plan.name.as_str())?;
@@ -117,21 +155,25 @@ fn shifted(alloc: Global, plan: &FilePlan, base: &Apriori, neq: &mut Neq<16>) ->
 }
 
 // The part of a file.
-fn part_of<'a>(
+fn part_of<'a, R: Threads + Sync>(
+    rt: &R,
     alloc: Global,
     scales: &Scales,
     base: &Apriori,
     input: &Input<'a>,
+    workers: usize,
 ) -> Result<FilePart<'a>, Refusal>
     requires valid { IsValid (doc_view input.now.doc) }
     requires weight { IsPositiveAndShort (input_view input.now).plan.weight }
+    requires some_workers { 1 ≤ workers }
+    requires few_workers { workers ≤ 16 }
     requires small { (id : PlainId) → IsAtMost (10 ^ 12) (common_value base.now id) }
     ensures part { (rows : List PlainRow) → HasFirstRows base.now rows → IfOk result (λ part. IsPart scales.now rows [] (input_view input.now) (Ok (part_view part))) }
     ensures known { (rows : List PlainRow) → HasFirstRows base.now rows → IfOk result (λ part. IsPartOf scales.now rows (input_view input.now) (part_view part)) }
     ensures refused { (rows : List PlainRow) → HasFirstRows base.now rows → IfErr result (IfTold (λ refusal. IsPart scales.now rows [] (input_view input.now) (Err refusal))) }
     ensures no_fault { IfErr result (λ refusal. status_of refusal ≢ 5) }
 {
-    let mut neq = recovered(alloc, scales, input)?;
+    let mut neq = recovered(rt, alloc, scales, input, workers)?;
     shifted(alloc, input.plan, base, &mut neq)?;
     Ok(FilePart {
         plan: input.plan,
@@ -140,14 +182,18 @@ fn part_of<'a>(
 }
 
 // The parts of a combination, one for each file. Each document is let go once its part stands.
-pub fn parts_of<'a>(
+pub fn parts_of<'a, R: Threads + Sync>(
+    rt: &R,
     alloc: Global,
     scales: &Scales,
     base: &Apriori,
     inputs: Vec<Input<'a>>,
+    workers: usize,
 ) -> Result<Vec<FilePart<'a>>, Refusal>
     requires valid { All (λ input. IsValid (doc_view input.doc)) inputs.items }
     requires weights { All (λ input. IsPositiveAndShort (input_view input).plan.weight) inputs.items }
+    requires some_workers { 1 ≤ workers }
+    requires few_workers { workers ≤ 16 }
     requires small { (id : PlainId) → IsAtMost (10 ^ 12) (common_value base.now id) }
     ensures parts { (rows : List PlainRow) → HasFirstRows base.now rows → IfOk result (λ parts. AreParts scales.now rows (map input_view inputs.entry.items) (Ok (map part_view parts.items))) }
     ensures each { (rows : List PlainRow) → HasFirstRows base.now rows → IfOk result (λ parts. AreEach (IsPartOf scales.now rows) (map input_view inputs.entry.items) (map part_view parts.items)) }
@@ -156,7 +202,7 @@ pub fn parts_of<'a>(
 {
     let mut parts = Vec::new(alloc);
     for input in inputs {
-        let part = part_of(alloc, scales, base, &input)?;
+        let part = part_of(rt, alloc, scales, base, &input, workers)?;
         if parts.push(part).is_err() {
             return Err(Refusal::Memory);
         }

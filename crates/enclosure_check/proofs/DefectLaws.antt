@@ -19,7 +19,8 @@ use Rattle.equil.specs.Tables.{table_of}
 use Rattle.whole_numbers.specs.Lists.{at, AllAtMost}
 use Rattle.enclosures.specs.Pilots.{PilotTable, pilot_entry}
 use Rattle.enclosure_check.specs.Certificates.{parts_of}
-use Rattle.enclosure_check.specs.Defects.{entry_between, products_to, clipped_left, turned_table, AreRows, HasEntries}
+use Rattle.enclosure_check.specs.Rows.{entry_between, HasEntries}
+use Rattle.enclosure_check.specs.Defects.{products_to, clipped_left, turned_table, AreRows}
 use Rattle.enclosure_check.proofs.ErrorLaws.{step_fits}
 
 -- the numbers and the intervals below n are in their bounds
@@ -60,6 +61,10 @@ parts_small g total h =
     let c = (div_ceil_times total T (two_pow_above (g + 30))).1 in
     let b : T * up_over total T ≤ T * (1000 * 2 ^ 30 + 1) = omega (arith, pow_split g, c) in
     omega (arith, le_of_mul-le-mul_left b (two_pow_above (g + 30)))
+
+-- a total with one more number
+pub total_more : (k : ℕ) (f : ℕ → ℕ) (t s : ℕ) → t ≡ total_to k f → s ≡ f k → t + s ≡ total_to (k + 1) f
+total_more k f t s e d = rw (e, d, add-one) refl
 
 -- at most 1000 clipped sizes
 pub total_small : (m g i : ℕ) (f : ℕ → Interval) → m ≤ 1000 → total_to m (λ j. clipped_left g i j (f j)) ≤ 1000 * 2 ^ (g + 60)
@@ -118,8 +123,6 @@ entries_of_rows n a low high each j k row column =
     let m = mod-mul-add j n k column in
     each (j * n + k) (mul-add-lt j n k n row column) ∙ rw (d, m) refl
 
--- the defect by the rows of the lists is that by the columns of the table
-pub turned_parts : (m n i parts : ℕ) (a : SymTable) (d : List Interval) (p : PilotTable) (low high : List ℤ) → m ≡ n → HasEntries n a low high → parts ≡ parts_of m (turned_table m low high) p i → parts ≡ parts_of n (table_of a d) p i
-turned_parts m n i parts a d p low high size entries is =
-    is ∙ ap (λ k. parts_of k (turned_table k low high) p i) size
-    ∙ row_parts_same n p.g i (pilot_entry p) (pilot_entry p) (turned_table n low high) (table_of a d) (λ k l. refl) (λ k j l b. entries j k b l ∙ entry_sym a j k)
+-- the defect by the rows of the table is that by its columns
+pub turned_parts : (i parts : ℕ) (a : SymTable) (d : List Interval) (p : PilotTable) → parts ≡ parts_of a.size (turned_table a) p i → parts ≡ parts_of a.size (table_of a d) p i
+turned_parts i parts a d p is = is ∙ row_parts_same a.size p.g i (pilot_entry p) (pilot_entry p) (turned_table a) (table_of a d) (λ k l. refl) (λ k j l b. entry_sym a j k)

@@ -4,20 +4,23 @@ use Rattle.std.specs.Int.{w128}
 use Rattle.std.proofs.Math.Decide.{dec_lt}
 use Rattle.std.proofs.lemmas.Int.{fits_signed_from_abs}
 use Rattle.whole_numbers.specs.Quotients.{up_over}
-use Rattle.whole_numbers.specs.Intervals.{Interval, size, interval_add, interval_scale, interval_shift, sum_intervals}
+use Rattle.whole_numbers.specs.Intervals.{Interval, size, interval_add, interval_sub, interval_scale, interval_shift, sum_intervals}
 use Rattle.whole_numbers.proofs.Sizes.{product_le, size_scale, size_sum_by}
 use Rattle.whole_numbers.proofs.Sums.{total_part, total_to_le, total_to-*, total_to-bound, le-total_to}
 use Rattle.whole_numbers.proofs.IntervalLaws.{sum_intervals_same}
 use Rattle.sym_blocks.specs.Tables.{SymTable, entry_at}
-use Rattle.whole_numbers.specs.Lists.{at}
+use Rattle.whole_numbers.specs.Lists.{at, AllAtMost}
 use Rattle.sys_model.specs.Systems.{Table, residual_interval}
+use Rattle.equil.specs.Tables.{table_of}
 use Rattle.enclosures.specs.Pilots.{PilotTable, pilot_entry}
+use Rattle.enclosures.specs.Vectors.{IsSmall}
 use Rattle.enclosure_check.specs.Certificates.{AreErrors, ResidualFitsAfter}
+use Rattle.enclosure_check.specs.Rows.{entry_between, IsRowByVector}
 use Rattle.enclosure_check.specs.ErrorParts.{IsVector, IsRowByEntries, AreResiduals, AreShifted, AreShiftedResiduals, AreShiftedErrors, FitAfter, taken_interval, part_interval, shifted_error, nth_entry}
 use Rattle.stated_order.specs.First.{IsLeast}
 
 -- ---- sums of intervals
-ends_fit : (w : Interval) → size w ≤ 2 ^ 126 → FitsSigned w128 w.lo × FitsSigned w128 w.hi
+pub ends_fit : (w : Interval) → size w ≤ 2 ^ 126 → FitsSigned w128 w.lo × FitsSigned w128 w.hi
 ends_fit w h = (fits_signed_from_abs w128 w.lo (omega arith), fits_signed_from_abs w128 w.hi (omega arith))
 
 sum_intervals_more : (k : ℕ) (f : ℕ → Interval) → sum_intervals (k + 1) f ≡ interval_add (sum_intervals k f) (f k)
@@ -30,24 +33,46 @@ step_fits k f w v e d h =
     ends_fit (interval_add w v) (omega (arith, h, ap (λ u. size u) t))
 
 -- ---- what the vector takes of a row
--- the intervals of a working table
-abbrev pub AreSmallIntervals : SymTable → Type 0
-AreSmallIntervals a = (i j : ℕ) → i < a.size → j < a.size → size (entry_at a i j) ≤ 2 ^ 61
+-- the interval between the ends of a row is the table's, where they are its ends
+pub between_is : (low high : List ℤ) (k : ℕ) (w : Interval) → at low k ≡ w.lo → at high k ≡ w.hi → entry_between low high k ≡ w
+between_is low high k w e d = rw (e, d) refl
+
+pub between_small : (low high y : List ℤ) (j : ℕ) → IsRowByVector low high y → j < length y → size (entry_between low high j) ≤ 2 ^ 61
+between_small low high y j s within = omega (arith, s.low_ends j (omega (arith, s.lows)), s.high_ends j (omega (arith, s.highs)))
 
 -- each product fits
-pub taken_small : (a : SymTable) (y : List ℤ) (i j : ℕ) → AreSmallIntervals a → IsVector a.size y → i < a.size → j < a.size → unsigned_abs (at y j) * size (entry_at a i j) ≤ 2 ^ 126
-taken_small a y i j small v row column =
-    let t = le-total_to a.size (λ k. unsigned_abs (at y k)) j column in
-    omega (arith, product_le (unsigned_abs (at y j)) (2 ^ 64) (size (entry_at a i j)) (2 ^ 61) (omega (arith, v.small)) (small i j row column))
+pub taken_small : (low high y : List ℤ) (j : ℕ) → IsRowByVector low high y → j < length y → unsigned_abs (at y j) * size (entry_between low high j) ≤ 2 ^ 126
+taken_small low high y j s within =
+    let t = le-total_to (length y) (λ k. unsigned_abs (at y k)) j within in
+    omega (arith, product_le (unsigned_abs (at y j)) (2 ^ 64) (size (entry_between low high j)) (2 ^ 61) (omega (arith, s.small)) (between_small low high y j s within))
 
 -- so does each part of their sum
-pub row_small : (a : SymTable) (y : List ℤ) (i m : ℕ) → AreSmallIntervals a → IsVector a.size y → i < a.size → m ≤ a.size → size (sum_intervals m (taken_interval a y i)) ≤ 2 ^ 125
-row_small a y i m small v row most =
-    let s = size_sum_by m (taken_interval a y i) in
-    let b = total_to_le m (λ k. size (taken_interval a y i k)) (λ k. unsigned_abs (at y k) * 2 ^ 61) (λ k d. size_scale (at y k) (entry_at a i k) (unsigned_abs (at y k)) (2 ^ 61) (omega arith) (small i k row (omega arith))) in
+pub row_small : (low high y : List ℤ) (m : ℕ) → IsRowByVector low high y → m ≤ length y → size (sum_intervals m (taken_interval low high y)) ≤ 2 ^ 125
+row_small low high y m s most =
+    let t = size_sum_by m (taken_interval low high y) in
+    let b = total_to_le m (λ k. size (taken_interval low high y k)) (λ k. unsigned_abs (at y k) * 2 ^ 61) (λ k d. size_scale (at y k) (entry_between low high k) (unsigned_abs (at y k)) (2 ^ 61) (omega arith) (between_small low high y k s (omega arith))) in
     let c = total_to-* m (λ k. unsigned_abs (at y k)) (2 ^ 61) in
-    let e = total_part a.size (λ k. unsigned_abs (at y k)) m most in
-    omega (arith, s, b, c, e, v.small)
+    let e = total_part (length y) (λ k. unsigned_abs (at y k)) m most in
+    omega (arith, t, b, c, e, s.small)
+
+-- a row of the table and a vector of as many numbers
+pub row_by_vector : (n : ℕ) (low high y : List ℤ) → length low ≡ n → length high ≡ n → AllAtMost (2 ^ 61) low → AllAtMost (2 ^ 61) high → IsVector n y → IsRowByVector low high y
+row_by_vector n low high y lows highs low_ends high_ends v = record {
+  lows = lows ∙ sym v.len;
+  highs = highs ∙ sym v.len;
+  low_ends = low_ends;
+  high_ends = high_ends;
+  small = subst (λ m. IsSmall m (at y)) (sym v.len) v.small;
+}
+
+-- what it leaves of the right side is the residual of the row
+pub residual_is : (a : SymTable) (d : List Interval) (low high y : List ℤ) (i : ℕ) (v w r : Interval) → length y ≡ a.size
+    → ((k : ℕ) → k < a.size → at low k ≡ (entry_at a i k).lo) → ((k : ℕ) → k < a.size → at high k ≡ (entry_at a i k).hi)
+    → v ≡ nth_entry d i → w ≡ sum_intervals (length y) (taken_interval low high y) → r ≡ interval_sub v w → r ≡ residual_interval a.size (table_of a d) (at y) i
+residual_is a d low high y i v w r len lows highs right taken is =
+    let same = sum_intervals_same a.size (taken_interval low high y) (λ j. interval_scale (at y j) (entry_at a i j)) (λ k l. ap (interval_scale (at y k)) (between_is low high k (entry_at a i k) (lows k l) (highs k l))) in
+    let sum = taken ∙ ap (λ n. sum_intervals n (taken_interval low high y)) len ∙ same in
+    is ∙ ap (λ x. interval_sub x w) right ∙ ap (interval_sub (nth_entry d i)) sum
 
 -- ---- what the pilot makes of the intervals
 -- each product fits

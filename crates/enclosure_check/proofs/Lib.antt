@@ -1,7 +1,10 @@
 pub mod AloneCertificates
+pub mod AloneSteps
 pub mod AloneVectors
 pub mod CertificateLaws
 pub mod DefectLaws
+pub mod EqualTables
 pub mod ErrorLaws
+pub mod StepCalls
 pub mod VectorLaws
 pub mod WorkedTables

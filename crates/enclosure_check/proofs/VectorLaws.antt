@@ -1,5 +1,6 @@
 -- How large the numbers of a refinement are, and where refinements lead.
 use Rattle.std.proofs.Common.{◌≡◌, ◌≤◌, ◌<◌, ◌+◌, ◌-◌, ◌*◌, ◌^◌, ◌∙◌, ℕ, suc, ℤ, pos, ◌+ℤ◌, ◌*ℤ◌, unsigned_abs, FitsSigned, List, length, replicate, add-one, refl, sym, ap, subst, arith}
+use Rattle.std.proofs.Math.IntN.{◌-ℤ◌}
 use Rattle.std.specs.Int.{w128}
 use Rattle.std.proofs.lemmas.Int.{ints, fits_signed_from_abs, unsigned_abs-mul}
 use Rattle.std.proofs.lemmas.List.{get_or-replicate, length-replicate}
@@ -11,16 +12,18 @@ use Rattle.whole_numbers.proofs.Sums.{sum_to_same, abs-sum_to, abs-dot, total_pa
 use Rattle.whole_numbers.proofs.IntervalLaws.{two_pow_above}
 use Rattle.sym_blocks.specs.Tables.{SymTable, entry_at}
 use Rattle.sys_model.specs.Systems.{Table}
+use Rattle.equil.specs.Tables.{table_of}
 use Rattle.whole_numbers.specs.Lists.{at}
 use Rattle.enclosures.specs.Pilots.{PilotTable, pilot_entry}
 use Rattle.enclosure_check.specs.Answers.{IsVectorRefused}
-use Rattle.enclosure_check.specs.ErrorParts.{IsVector}
+use Rattle.enclosure_check.specs.Rows.{entry_between, IsRowByVector}
+use Rattle.enclosure_check.specs.ErrorParts.{IsVector, nth_entry}
 use Rattle.enclosure_check.specs.VectorParts.{taken_midpoint, part_number, correction_at, corrected_at, AreMidpointResiduals, AreFloors, IsRowByNumbers, AreShiftedNumbers, AreSmallNumbers, IsPassed, IsRefined, IsRefinementRefused}
 use Rattle.enclosure_check.specs.declared.VectorError.{VectorError}
 use Rattle.enclosure_check.specs.declared.VectorError.TheVariants.{Range, Memory}
 use Rattle.enclosure_check.specs.Vectors.{IsRefinement, AfterRefinements, IsStartVector, AllFitAfter, midpoint_residual, corrected}
 use Rattle.enclosures.specs.Vectors.{IsSmall}
-use Rattle.enclosure_check.proofs.ErrorLaws.{AreSmallIntervals, least_same}
+use Rattle.enclosure_check.proofs.ErrorLaws.{between_is, between_small, least_same}
 use Rattle.stated_order.specs.First.{IsLeast}
 
 -- the middle is no greater than the interval
@@ -36,20 +39,30 @@ sum_step k f s p e d h =
 
 -- ---- what the vector takes of a row
 -- each product fits
-pub taken_small : (a : SymTable) (y : List ℤ) (i j : ℕ) → AreSmallIntervals a → IsVector a.size y → i < a.size → j < a.size → unsigned_abs (midpoint (entry_at a i j)) * unsigned_abs (at y j) ≤ 2 ^ 126
-taken_small a y i j small v row column =
-    let t = le-total_to a.size (λ k. unsigned_abs (at y k)) j column in
-    omega (arith, product_le (unsigned_abs (midpoint (entry_at a i j))) (2 ^ 61) (unsigned_abs (at y j)) (2 ^ 64) (middle_small (entry_at a i j) (2 ^ 61) (small i j row column)) (omega (arith, v.small)))
+pub taken_small : (low high y : List ℤ) (j : ℕ) → IsRowByVector low high y → j < length y → unsigned_abs (midpoint (entry_between low high j)) * unsigned_abs (at y j) ≤ 2 ^ 126
+taken_small low high y j s within =
+    let t = le-total_to (length y) (λ k. unsigned_abs (at y k)) j within in
+    let m = middle_small (entry_between low high j) (2 ^ 61) (between_small low high y j s within) in
+    omega (arith, product_le (unsigned_abs (midpoint (entry_between low high j))) (2 ^ 61) (unsigned_abs (at y j)) (2 ^ 64) m (omega (arith, s.small)))
 
 -- so does each part of their sum
-pub row_small : (a : SymTable) (y : List ℤ) (i m : ℕ) → AreSmallIntervals a → IsVector a.size y → i < a.size → m ≤ a.size → unsigned_abs (sum_to m (taken_midpoint a y i)) ≤ 2 ^ 125
-row_small a y i m small v row most =
-    let s = abs-sum_to m (taken_midpoint a y i) in
-    let b = total_to_le m (λ k. unsigned_abs (taken_midpoint a y i k)) (λ k. unsigned_abs (at y k) * 2 ^ 61)
-    (λ k d. let p = product_le (unsigned_abs (at y k)) (unsigned_abs (at y k)) (unsigned_abs (midpoint (entry_at a i k))) (2 ^ 61) (omega arith) (middle_small (entry_at a i k) (2 ^ 61) (small i k row (omega arith))) in omega (arith, unsigned_abs-mul (midpoint (entry_at a i k)) (at y k), p)) in
+pub row_small : (low high y : List ℤ) (m : ℕ) → IsRowByVector low high y → m ≤ length y → unsigned_abs (sum_to m (taken_midpoint low high y)) ≤ 2 ^ 125
+row_small low high y m s most =
+    let t = abs-sum_to m (taken_midpoint low high y) in
+    let b = total_to_le m (λ k. unsigned_abs (taken_midpoint low high y k)) (λ k. unsigned_abs (at y k) * 2 ^ 61)
+    (λ k d. let p = product_le (unsigned_abs (at y k)) (unsigned_abs (at y k)) (unsigned_abs (midpoint (entry_between low high k))) (2 ^ 61) (omega arith) (middle_small (entry_between low high k) (2 ^ 61) (between_small low high y k s (omega arith))) in omega (arith, unsigned_abs-mul (midpoint (entry_between low high k)) (at y k), p)) in
     let c = total_to-* m (λ k. unsigned_abs (at y k)) (2 ^ 61) in
-    let e = total_part a.size (λ k. unsigned_abs (at y k)) m most in
-    omega (arith, s, b, c, e, v.small)
+    let e = total_part (length y) (λ k. unsigned_abs (at y k)) m most in
+    omega (arith, t, b, c, e, s.small)
+
+-- what it leaves of the right side is the residual of the row
+pub residual_is : (a : SymTable) (d : List Interval) (low high y : List ℤ) (i : ℕ) (m s r : ℤ) → length y ≡ a.size
+    → ((k : ℕ) → k < a.size → at low k ≡ (entry_at a i k).lo) → ((k : ℕ) → k < a.size → at high k ≡ (entry_at a i k).hi)
+    → m ≡ midpoint (nth_entry d i) → s ≡ sum_to (length y) (taken_midpoint low high y) → r ≡ m -ℤ s → r ≡ midpoint_residual a.size (table_of a d) (at y) i
+residual_is a d low high y i m s r len lows highs right taken is =
+    let same = sum_to_same a.size (taken_midpoint low high y) (λ j. midpoint (entry_at a i j) *ℤ at y j) (λ k l. ap (λ w. midpoint w *ℤ at y k) (between_is low high k (entry_at a i k) (lows k l) (highs k l))) in
+    let sum = taken ∙ ap (λ n. sum_to n (taken_midpoint low high y)) len ∙ same in
+    is ∙ ap (λ x. x -ℤ s) right ∙ ap (λ x. midpoint (nth_entry d i) -ℤ x) sum
 
 -- ---- what the pilot makes of the numbers
 -- each product fits

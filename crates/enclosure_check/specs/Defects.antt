@@ -1,19 +1,15 @@
--- The sums that the defects of a pilot are made of. Private functions alone speak of them.
-use Rattle.std.specs.Prelude.{◌≡◌, ◌≤◌, ◌<◌, ◌+◌, ◌*◌, ◌^◌, ℕ, ℤ, pos, negsuc, ◌*ℤ◌, List, length, min}
+-- For private functions alone: the sums that the defects of a pilot are made of.
+use Rattle.std.specs.Prelude.{◌≡◌, ◌≤◌, ◌+◌, ◌^◌, ℕ, ℤ, pos, negsuc, ◌*ℤ◌, List, length, min}
 use Rattle.whole_numbers.specs.Sum.{unit}
 use Rattle.whole_numbers.specs.Intervals.{Interval, point_interval, interval_sub, interval_scale, sum_intervals, size}
 use Rattle.sys_model.specs.Systems.{Table}
 use Rattle.sym_blocks.specs.Tables.{SymTable, entry_at, zero_interval}
-use Rattle.whole_numbers.specs.Lists.{at, AllAtMost}
+use Rattle.whole_numbers.specs.Lists.{AllAtMost}
 
 -- the product of r with up, or with down where r is below 0
 abbrev pub end_product : ℤ → ℤ → ℤ → ℤ
 end_product (pos k) up down = pos k *ℤ up
 end_product (negsuc k) up down = negsuc k *ℤ down
-
--- the interval from number k of low to number k of high
-abbrev pub entry_between : List ℤ → List ℤ → ℕ → Interval
-entry_between low high k = record { lo = at low k; hi = at high k }
 
 -- the sum of the first n products of the numbers r and the intervals f
 abbrev pub products_to : ℕ → (ℕ → ℤ) → (ℕ → Interval) → Interval
@@ -32,10 +28,6 @@ pub record AreRows (r low high : List ℤ) : Type 0 where
 abbrev pub clipped_left : ℕ → ℕ → ℕ → Interval → ℕ
 clipped_left g i j w = min (size (interval_sub (point_interval (unit i (pos (2 ^ (g + 60))) j)) w)) (2 ^ (g + 60))
 
--- the table whose interval in row k and column j has its ends in row j of low and high
-abbrev pub turned_table : ℕ → List ℤ → List ℤ → Table
-turned_table n low high = record { entry = λ k j. entry_between low high (j * n + k); right = λ i. zero_interval }
-
--- low and high have the ends of the intervals of a, row by row
-abbrev pub HasEntries : ℕ → SymTable → List ℤ → List ℤ → Type 0
-HasEntries n a low high = (j k : ℕ) → j < n → k < n → entry_between low high (j * n + k) ≡ entry_at a j k
+-- the table whose interval in row k and column j is that of row j and column k of a
+abbrev pub turned_table : SymTable → Table
+turned_table a = record { entry = λ k j. entry_at a j k; right = λ i. zero_interval }

@@ -1,12 +1,13 @@
--- What a vector leaves of the right side and what the pilot makes of it, in lists. Private functions alone speak of these.
+-- For private functions alone: what a vector leaves of the right side and what the pilot makes of it, in lists.
 use Rattle.std.specs.Prelude.{◌≡◌, ◌≤◌, ◌<◌, ◌+◌, ◌-◌, ◌^◌, ℕ, ℤ, List, length, slice_index_or}
 use Rattle.whole_numbers.specs.Quotients.{up_over}
 use Rattle.whole_numbers.specs.Intervals.{Interval, interval_scale, interval_shift, sum_intervals, size}
-use Rattle.sym_blocks.specs.Tables.{SymTable, entry_at, zero_interval}
+use Rattle.sym_blocks.specs.Tables.{zero_interval}
 use Rattle.sys_model.specs.Systems.{Table, residual_interval}
 use Rattle.whole_numbers.specs.Lists.{at, AllAtMost}
 use Rattle.enclosures.specs.Pilots.{PilotTable, pilot_entry}
 use Rattle.enclosures.specs.Vectors.{IsSmall}
+use Rattle.enclosure_check.specs.Rows.{entry_between}
 
 -- the interval at k of a list
 abbrev pub nth_entry : List Interval → ℕ → Interval
@@ -17,9 +18,9 @@ pub record IsVector (n : ℕ) (y : List ℤ) : Type 0 where
   pub len : length y ≡ n
   pub small : IsSmall n (at y)
 
--- the interval (i, j) times number j of the vector
-abbrev pub taken_interval : SymTable → List ℤ → ℕ → ℕ → Interval
-taken_interval a y i j = interval_scale (at y j) (entry_at a i j)
+-- interval j of a row times number j of the vector
+abbrev pub taken_interval : List ℤ → List ℤ → List ℤ → ℕ → Interval
+taken_interval low high y j = interval_scale (at y j) (entry_between low high j)
 
 -- the intervals are the residual of y
 pub record AreResiduals (n : ℕ) (t : Table) (y : ℕ → ℤ) (ws : List Interval) : Type 0 where

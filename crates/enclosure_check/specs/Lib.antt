@@ -1,4 +1,4 @@
--- A stranger reads Certificates, Vectors, Answers and Inputs, and CertificateLists for the calls in parts. Defects,
+-- A stranger reads Certificates, Vectors, Answers, Inputs and Steps, and CertificateLists for the calls in parts. Rows, Defects,
 -- ErrorParts, VectorParts and EnclosureErrors serve private functions alone.
 pub mod Certificates
 pub mod Answers
@@ -9,3 +9,5 @@ pub mod Defects
 pub mod Inputs
 pub mod CertificateLists
 pub mod EnclosureErrors
+pub mod Rows
+pub mod Steps

@@ -1,21 +1,21 @@
--- What a refinement of the start vector is made of, in lists. Private functions alone speak of these.
+-- For private functions alone: what a refinement of the start vector is made of, in lists.
 use Rattle.std.specs.Prelude.{◌≡◌, ◌≤◌, ◌<◌, ◌+◌, ◌-◌, ◌^◌, ℕ, suc, ℤ, ◌+ℤ◌, ◌*ℤ◌, ⊤, List, length}
 use Rattle.whole_numbers.specs.Quotients.{floor_over}
 use Rattle.whole_numbers.specs.Sum.{sum_to}
-use Rattle.sym_blocks.specs.Tables.{SymTable, entry_at}
 use Rattle.sys_model.specs.Systems.{Table}
 use Rattle.whole_numbers.specs.Lists.{at, AllAtMost}
 use Rattle.enclosures.specs.Pilots.{PilotTable, pilot_entry}
 use Rattle.enclosure_check.specs.ErrorParts.{IsVector}
+use Rattle.enclosure_check.specs.Rows.{entry_between}
 use Rattle.enclosure_check.specs.Vectors.{IsRefinement, midpoint_residual}
 use Rattle.enclosures.specs.Vectors.{IsSmall}
 use Rattle.enclosure_check.specs.declared.VectorError.{VectorError}
 use Rattle.enclosure_check.specs.declared.VectorError.TheVariants.{Range, Memory}
 use Rattle.whole_numbers.specs.Intervals.{midpoint}
 
--- the midpoint of the interval (i, j) times number j of the vector
-abbrev pub taken_midpoint : SymTable → List ℤ → ℕ → ℕ → ℤ
-taken_midpoint a y i j = midpoint (entry_at a i j) *ℤ at y j
+-- the midpoint of interval j of a row times number j of the vector
+abbrev pub taken_midpoint : List ℤ → List ℤ → List ℤ → ℕ → ℤ
+taken_midpoint low high y j = midpoint (entry_between low high j) *ℤ at y j
 
 -- the numbers are the residual of y, by the midpoints of the intervals
 pub record AreMidpointResiduals (n : ℕ) (t : Table) (y : ℕ → ℤ) (qs : List ℤ) : Type 0 where

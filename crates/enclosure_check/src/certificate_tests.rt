@@ -1,6 +1,6 @@
 //! Tests of the defects and of the certificate, by tables of one row that are worked out by hand.
 
-use crate::{CheckError, check, row_defect};
+use crate::{CheckError, WorkingRows, check, row_defect};
 use enclosures::Pilot;
 use equil::Working;
 use interval_word::Iv;
@@ -34,7 +34,8 @@ fn one_row<R: Threads + Sync, const N: usize>(
         Some(p) => p,
         None => return Err(AllocError),
     };
-    let answer = match check(rt, alloc, &w, &p, &[0], 1) {
+    let rows = WorkingRows::of(alloc, &w.a)?;
+    let answer = match check(rt, alloc, &rows, &w.d, &p, &[0], 1) {
         Ok(v) => Ok((v.b, v.m, v.w.first().copied())),
         Err(refusal) => Err(refusal),
     };

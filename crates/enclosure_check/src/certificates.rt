@@ -9,14 +9,16 @@ ghost use Rattle.equil.specs.Tables.{table_of};
 ghost use Rattle.enclosure_check.specs.Answers.{IsCheckRefused};
 ghost use Rattle.enclosure_check.specs.CertificateLists.{greatest_of, IsFirstGreatest, radius_from, HasRadii, IsErrorRefused, IsDefectRefused, IsRefusedOf, Certifies};
 ghost use Rattle.enclosure_check.specs.Certificates.{IsCertified};
+ghost use Rattle.enclosure_check.specs.Inputs.{IsRightSide};
 ghost use Rattle.enclosures.specs.Vectors.{IsSmall};
 ghost use Rattle.enclosure_check.specs.declared.CheckError.TheVariants.{Memory};
 
 use crate::CheckError;
 use crate::row_defects::defects;
 use crate::row_errors::errors;
+use crate::working_rows::WorkingRows;
 use enclosures::{Pilot, Radius};
-use equil::Working;
+use interval_word::Iv;
 use std::alloc::{AllocError, Global};
 use std::thread::Threads;
 
@@ -145,8 +147,8 @@ pub fn certificate(alloc: Global, errors: &[u128], defects: &[u64]) -> Result<Ra
     certificate_of(alloc, errors, defects)
 }
 
-/// The numbers of the certificate at the vector `y`, exactly where it passes. Then each system in the intervals of the working
-/// table has exactly one solution, and it lies within these radii of `y`.
+/// The numbers of the certificate of a right side at the vector `y`, exactly where it passes. Then each system in the intervals of
+/// the table and of the right side has exactly one solution, and it lies within these radii of `y`.
 ///
 /// Residual comes exactly where the error of a row passes 2^66, with the first such row. Otherwise Defect comes exactly
 /// where the greatest defect is 2^30 or more, with the first row that has it. The number of workers, from 1 to 16, has no
@@ -154,22 +156,24 @@ pub fn certificate(alloc: Global, errors: &[u128], defects: &[u64]) -> Result<Ra
 pub fn check<R: Threads + Sync, const N: usize>(
     _rt: &R,
     alloc: Global,
-    w: &Working<N>,
+    rows: &WorkingRows<'_, N>,
+    d: &[Iv],
     p: &Pilot,
     y: &[i128],
     workers: usize,
 ) -> Result<Radius, CheckError>
-    requires sizes { p.now.size ≡ w.now.a.size }
-    requires len { length y.now ≡ w.now.a.size }
-    requires small { IsSmall w.now.a.size (at y.now) }
+    requires rights { IsRightSide rows.now.table.now.size d.now }
+    requires sizes { p.now.size ≡ rows.now.table.now.size }
+    requires len { length y.now ≡ rows.now.table.now.size }
+    requires small { IsSmall rows.now.table.now.size (at y.now) }
     requires some_workers { 1 ≤ workers }
     requires few_workers { workers ≤ 16 }
-    ensures certified { IfOk result (IsCertified w.now.a.size (table_of w.now.a w.now.d.items) p.now (at y.now)) }
-    ensures encloses { IfOk result (λ v. Encloses w.now.a.size (table_of w.now.a w.now.d.items) (at y.now) (radius_at v)) }
-    ensures refused { IfErr result (IsCheckRefused w.now.a.size (table_of w.now.a w.now.d.items) p.now (at y.now)) }
+    ensures certified { IfOk result (IsCertified rows.now.table.now.size (table_of rows.now.table.now d.now) p.now (at y.now)) }
+    ensures encloses { IfOk result (λ v. Encloses rows.now.table.now.size (table_of rows.now.table.now d.now) (at y.now) (radius_at v)) }
+    ensures refused { IfErr result (IsCheckRefused rows.now.table.now.size (table_of rows.now.table.now d.now) p.now (at y.now)) }
 {
-    let row_errors = errors(alloc, &w.a, &w.d, p, y)?;
+    let row_errors = errors(alloc, rows, d, p, y)?;
     small_errors(&row_errors)?;
-    let row_defects = defects(alloc, &w.a, p)?;
+    let row_defects = defects(alloc, rows, p)?;
     certificate(alloc, &row_errors, &row_defects)
 }

@@ -8,13 +8,22 @@ ghost use Rattle.enclosures.specs.Radii.{radius_at};
 ghost use Rattle.equil.specs.Tables.{table_of};
 ghost use Rattle.enclosure_check.specs.Answers.{IsEnclosed, IsEncloseRefused};
 ghost use Rattle.enclosure_check.specs.EnclosureErrors.{of_pilot, of_vector, of_check};
+ghost use Rattle.enclosure_check.specs.declared.EncloseError.TheVariants.{Memory};
 
-use crate::{CheckError, EncloseError, VectorError, check, start_vector};
+use crate::{CheckError, EncloseError, VectorError, WorkingRows, check, start_vector};
 use chol_guess::{PilotError, pilot};
 use enclosures::Enclosed;
 use equil::Working;
-use std::alloc::Global;
+use std::alloc::{AllocError, Global};
 use std::thread::Threads;
+
+impl From<AllocError> for EncloseError {
+    ghost from_gives = { λ _ e. e ≡ Memory };
+
+    fn from(_e: AllocError) -> EncloseError {
+        EncloseError::Memory
+    }
+}
 
 impl From<PilotError> for EncloseError {
     ghost from_gives = { λ e refusal. refusal ≡ of_pilot e };
@@ -66,7 +75,8 @@ pub fn enclose<R: Threads + Sync, const N: usize>(
     ensures refused { IfErr result (IsEncloseRefused w.now.a.size (table_of w.now.a w.now.d.items) (midpoints w.now.a)) }
 {
     let pilot = pilot(rt, alloc, w, workers)?;
-    let y = start_vector(alloc, w, &pilot)?;
-    let radius = check(rt, alloc, w, &pilot, &y, workers)?;
+    let rows = WorkingRows::of(alloc, &w.a)?;
+    let y = start_vector(alloc, &rows, &w.d, &pilot)?;
+    let radius = check(rt, alloc, &rows, &w.d, &pilot, &y, workers)?;
     Ok(Enclosed { pilot, y, radius })
 }

@@ -10,11 +10,14 @@ mod certificates;
 mod enclosure;
 #[cfg(test)]
 mod enclosure_tests;
+mod ends;
+mod products;
 mod row_defects;
 mod row_errors;
 mod vector;
 #[cfg(test)]
 mod vector_tests;
+mod working_rows;
 
 pub use certificates::{certificate, check};
 pub use enclosure::enclose;
@@ -22,6 +25,7 @@ pub use enclosures::{Enclosed, Pilot, Radius};
 pub use row_defects::{defects, row_defect};
 pub use row_errors::errors;
 pub use vector::start_vector;
+pub use working_rows::WorkingRows;
 
 /// Why a working table has no start vector.
 #[derive(Clone, Copy, Debug, PartialEq, Eq, Error)]

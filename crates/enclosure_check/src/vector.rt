@@ -2,22 +2,28 @@
 
 ghost use Rattle.std.specs.Prelude.{◌≡◌, ◌≤◌, ◌<◌, ◌+◌, ◌^◌, ◌↔◌, pos, length, replicate, unsigned_abs, IsTrue, IfOk, IfErr, MatchResult};
 ghost use Rattle.std.specs.Vec.{vec_len};
+ghost use Rattle.whole_numbers.specs.Intervals.{midpoint};
 ghost use Rattle.whole_numbers.specs.Sum.{sum_to};
 ghost use Rattle.whole_numbers.specs.Lists.{at, AllAtMost};
 ghost use Rattle.equil.specs.Tables.{table_of};
 ghost use Rattle.enclosure_check.specs.Answers.{IsVectorRefused};
+ghost use Rattle.enclosure_check.specs.Rows.{IsRowByVector};
 ghost use Rattle.enclosure_check.specs.ErrorParts.{IsVector};
+ghost use Rattle.enclosure_check.specs.Inputs.{IsRightSide};
+ghost use Rattle.enclosures.specs.Vectors.{IsSmall};
 ghost use Rattle.enclosure_check.specs.VectorParts.{taken_midpoint, AreMidpointResiduals, AreFloors, IsRowByNumbers, part_number, AreShiftedNumbers, correction_at, corrected_at, AreSmallNumbers, IsPassed, IsRefined, IsRefinementRefused};
 ghost use Rattle.enclosure_check.specs.Vectors.{IsStartVector, AllFitAfter, midpoint_residual};
 ghost use Rattle.enclosure_check.specs.declared.VectorError.TheVariants.{Memory};
 ghost use Rattle.stated_order.specs.First.{IsLeast};
 
 use crate::VectorError;
+use crate::products::short_product;
 use crate::row_errors::{MOST_SHIFT, nth_entry};
+use crate::working_rows::WorkingRows;
 use enclosures::Pilot;
-use equil::Working;
+use interval_word::Iv;
 use std::alloc::{AllocError, AllocFailed, Global};
-use whole_numbers::{least_passed, product, shift_floor};
+use whole_numbers::{least_passed, shift_floor};
 
 /// The greatest size of a number that the pilot is multiplied with.
 const SHIFTED_LIMIT: u128 = 1 << 66;
@@ -44,52 +50,67 @@ impl From<AllocError> for VectorError {
     }
 }
 
-/// What number `j` of the vector takes of row `i`, by the midpoint of the interval.
-fn taken_midpoint<const N: usize>(w: &Working<N>, y: &[i128], i: usize, j: usize) -> i128
-    requires vector { IsVector w.now.a.size y.now }
-    requires row { i < w.now.a.size }
-    requires column { j < w.now.a.size }
-    ensures { result ≡ taken_midpoint w.now.a y.now i j }
+/// Half the sum of two ends, rounded down.
+fn middle(low: i64, high: i64) -> i64
+    requires low_end { unsigned_abs low ≤ 2 ^ 61 }
+    requires high_end { unsigned_abs high ≤ 2 ^ 61 }
+    ensures { result ≡ midpoint (record { lo = low; hi = high }) }
 {
-    product(w.a.get(i, j).mid(), y[j])
+    (low + high) >> 1
 }
 
-/// What the vector takes of row `i`, by the midpoints of the intervals.
-fn taken<const N: usize>(w: &Working<N>, y: &[i128], i: usize) -> i128
-    requires vector { IsVector w.now.a.size y.now }
-    requires row { i < w.now.a.size }
-    ensures value { result ≡ sum_to w.now.a.size (taken_midpoint w.now.a y.now i) }
+/// What number `j` of the vector takes of a row, by the midpoint of the interval.
+fn taken_midpoint(low: &[i64], high: &[i64], y: &[i128], j: usize) -> i128
+    requires row { IsRowByVector low.now high.now y.now }
+    requires within { j < length y.now }
+    ensures { result ≡ taken_midpoint low.now high.now y.now j }
+{
+    short_product(i128::from(middle(low[j], high[j])), y[j])
+}
+
+/// What the vector takes of a row, by the midpoints of its intervals.
+fn taken(low: &[i64], high: &[i64], y: &[i128]) -> i128
+    requires { IsRowByVector low.now high.now y.now }
+    ensures value { result ≡ sum_to (length y.now) (taken_midpoint low.now high.now y.now) }
     ensures bound { unsigned_abs result ≤ 2 ^ 125 }
 {
     let mut sum: i128 = 0;
-    for j in 0..w.a.size() {
-        sum += taken_midpoint(w, y, i, j);
+    for j in 0..y.len() {
+        sum += taken_midpoint(low, high, y, j);
     }
     sum
 }
 
 /// The residual of the vector in row `i`, by the midpoints of the intervals.
-fn midpoint_residual<const N: usize>(w: &Working<N>, y: &[i128], i: usize) -> i128
-    requires vector { IsVector w.now.a.size y.now }
-    requires row { i < w.now.a.size }
-    ensures value { result ≡ midpoint_residual w.now.a.size (table_of w.now.a w.now.d.items) (at y.now) i }
+fn midpoint_residual<const N: usize>(
+    rows: &WorkingRows<'_, N>,
+    d: &[Iv],
+    y: &[i128],
+    i: usize,
+) -> i128
+    requires rights { IsRightSide rows.now.table.now.size d.now }
+    requires vector { IsVector rows.now.table.now.size y.now }
+    requires row { i < rows.now.table.now.size }
+    ensures value { result ≡ midpoint_residual rows.now.table.now.size (table_of rows.now.table.now d.now) (at y.now) i }
     ensures bound { unsigned_abs result ≤ 2 ^ 126 }
 {
-    nth_entry(&w.d, i).mid() - taken(w, y, i)
+    nth_entry(d, i).mid() - taken(rows.lows(i), rows.highs(i), y)
 }
 
 /// The residual of the vector, row by row.
 fn midpoint_residuals<const N: usize>(
     alloc: Global,
-    w: &Working<N>,
+    rows: &WorkingRows<'_, N>,
+    d: &[Iv],
     y: &[i128],
 ) -> Result<Vec<i128>, AllocError>
-    requires { IsVector w.now.a.size y.now }
-    ensures { IfOk result (λ v. AreMidpointResiduals w.now.a.size (table_of w.now.a w.now.d.items) (at y.now) v.items) }
+    requires rights { IsRightSide rows.now.table.now.size d.now }
+    requires vector { IsVector rows.now.table.now.size y.now }
+    ensures { IfOk result (λ v. AreMidpointResiduals rows.now.table.now.size (table_of rows.now.table.now d.now) (at y.now) v.items) }
 {
     let mut numbers = Vec::new(alloc);
-    for i in 0..w.a.size() {
-        numbers.push(midpoint_residual(w, y, i))?;
+    for i in 0..rows.table.size() {
+        numbers.push(midpoint_residual(rows, d, y, i))?;
     }
     Ok(numbers)
 }
@@ -134,7 +155,7 @@ fn part_number(row: &[i64], numbers: &[i128], k: usize) -> i128
     requires within { k < length numbers.now }
     ensures { result ≡ part_number row.now numbers.now k }
 {
-    product(i128::from(row[k]), numbers[k])
+    short_product(i128::from(row[k]), numbers[k])
 }
 
 /// What a row of the pilot makes of the numbers.
@@ -203,15 +224,17 @@ fn corrected(
 /// first do.
 fn refine<const N: usize>(
     alloc: Global,
-    w: &Working<N>,
+    rows: &WorkingRows<'_, N>,
+    d: &[Iv],
     p: &Pilot,
     y: &[i128],
 ) -> Result<Vec<i128>, VectorError>
-    requires sizes { p.now.size ≡ w.now.a.size }
-    requires vector { IsVector w.now.a.size y.now }
-    ensures { MatchResult result (λ z. IsRefined w.now.a.size (table_of w.now.a w.now.d.items) p.now (at y.now) z.items) (IsRefinementRefused w.now.a.size (table_of w.now.a w.now.d.items) p.now (at y.now)) }
+    requires rights { IsRightSide rows.now.table.now.size d.now }
+    requires sizes { p.now.size ≡ rows.now.table.now.size }
+    requires vector { IsVector rows.now.table.now.size y.now }
+    ensures { MatchResult result (λ z. IsRefined rows.now.table.now.size (table_of rows.now.table.now d.now) p.now (at y.now) z.items) (IsRefinementRefused rows.now.table.now.size (table_of rows.now.table.now d.now) p.now (at y.now)) }
 {
-    let numbers = midpoint_residuals(alloc, w, y)?;
+    let numbers = midpoint_residuals(alloc, rows, d, y)?;
     let h = least_shift(&numbers);
     let shifted = floors(alloc, &numbers, h)?;
     corrected(alloc, p, y, &shifted, h)
@@ -224,21 +247,24 @@ fn zeros(alloc: Global, n: usize) -> Result<Vec<i128>, AllocError>
     vec![in alloc; 0i128; n]
 }
 
-/// The start vector of the pilot, in units of the working table. Range comes exactly where after one of the three refinements
-/// the sizes of the vector pass 2^64 in sum, with the row at which they first do.
+/// The start vector of a right side and the pilot, in units of the working table. Range comes exactly where after one of the
+/// three refinements the sizes of the vector pass 2^64 in sum, with the row at which they first do.
 pub fn start_vector<const N: usize>(
     alloc: Global,
-    w: &Working<N>,
+    rows: &WorkingRows<'_, N>,
+    d: &[Iv],
     p: &Pilot,
 ) -> Result<Vec<i128>, VectorError>
-    requires { p.now.size ≡ w.now.a.size }
-    ensures len { IfOk result (λ y. vec_len y ≡ w.now.a.size) }
-    ensures vector { IfOk result (λ y. IsStartVector w.now.a.size (table_of w.now.a w.now.d.items) p.now (at y.items)) }
-    ensures refused { IfErr result (IsVectorRefused w.now.a.size (table_of w.now.a w.now.d.items) p.now) }
+    requires rights { IsRightSide rows.now.table.now.size d.now }
+    requires sizes { p.now.size ≡ rows.now.table.now.size }
+    ensures len { IfOk result (λ y. vec_len y ≡ rows.now.table.now.size) }
+    ensures vector { IfOk result (λ y. IsStartVector rows.now.table.now.size (table_of rows.now.table.now d.now) p.now (at y.items)) }
+    ensures small { IfOk result (λ y. IsSmall rows.now.table.now.size (at y.items)) }
+    ensures refused { IfErr result (IsVectorRefused rows.now.table.now.size (table_of rows.now.table.now d.now) p.now) }
 {
-    let mut y = zeros(alloc, w.a.size())?;
+    let mut y = zeros(alloc, rows.table.size())?;
     for k in 0..REFINEMENTS {
-        y = refine(alloc, w, p, &y)?;
+        y = refine(alloc, rows, d, p, &y)?;
     }
     Ok(y)
 }

@@ -1,6 +1,6 @@
 //! Tests of the start vector and of the errors at it. The numbers are worked out by hand from the definitions.
 
-use crate::{VectorError, errors, start_vector};
+use crate::{VectorError, WorkingRows, errors, start_vector};
 use enclosures::Pilot;
 use equil::working;
 use interval_word::Iv;
@@ -20,9 +20,10 @@ fn one_row<const N: usize>(alloc: Global) -> Result<bool, VectorError> {
         Pilot::from_entries(40, 1, entries),
     ) {
         (Ok(w), Some(p)) => {
-            let y = start_vector(alloc, &w, &p)?;
-            let at_start = errors(alloc, &w.a, &w.d, &p, &y)?;
-            let at_zero = errors(alloc, &w.a, &w.d, &p, &[0])?;
+            let rows = WorkingRows::of(alloc, &w.a)?;
+            let y = start_vector(alloc, &rows, &w.d, &p)?;
+            let at_start = errors(alloc, &rows, &w.d, &p, &y)?;
+            let at_zero = errors(alloc, &rows, &w.d, &p, &[0])?;
             Ok(
                 y.as_slice() == [5_000_000_000_000].as_slice()
                     && at_start.as_slice() == [0].as_slice()
@@ -47,9 +48,10 @@ fn two_rows<const N: usize>(alloc: Global) -> Result<bool, VectorError> {
         working(alloc, &table, &rights),
         Pilot::from_entries(0, 2, entries),
     ) {
-        (Ok(w), Some(p)) => Ok(
-            start_vector(alloc, &w, &p).err() == Some(VectorError::Range { row: 1 }),
-        ),
+        (Ok(w), Some(p)) => {
+            let rows = WorkingRows::of(alloc, &w.a)?;
+            Ok(start_vector(alloc, &rows, &w.d, &p).err() == Some(VectorError::Range { row: 1 }))
+        }
         _ => Ok(false),
     }
 }

@@ -11,14 +11,13 @@ use Rattle.control_doc.specs.Valid.{IsPositiveAndShort}
 use Rattle.neq_stack.specs.ByName.{AreAtMost}
 use Rattle.neq_stack.specs.Neqs.{PlainNeq, IsSound}
 use Rattle.neq_stack.specs.Systems.{NamedSystem, LiesInNeq}
-use Rattle.named_tables.specs.Weighted.{scale_of}
+use Rattle.named_tables.specs.Weighted.{IsWeight, scale_of}
 use Rattle.named_tables.specs.declared.faults.RecoverFault.{RecoverFault}
 use Rattle.named_tables.specs.declared.faults.RecoverError.TheVariants.{Memory, Fault}
 use Rattle.recover_neq.specs.Blocks.{Blocks}
 use Rattle.recover_neq.specs.Exact as exact_equations
 use Rattle.recover_neq.specs.Recovery as equations
 use Rattle.recover_neq.proofs.LawExact.{exact_exists}
-use Rattle.recover_solution.specs.Views.{IsWeight}
 use Rattle.file_recovery.specs.Files.{Source, Equations, IsSource}
 use Rattle.file_recovery.specs.Recovery.{IsRecoveredFrom, IsRecovered, IsExactFrom, IsExact}
 use Rattle.file_recovery.specs.Parts.{IsRecoveredOf}

@@ -19,9 +19,10 @@ use Rattle.recover_neq.specs.Blocks.{Blocks}
 use Rattle.recover_neq.specs.Recovery as equations
 use Rattle.recover_solution.specs.Solutions.{PlainSolution}
 use Rattle.recover_solution.specs.Recovery.{at_estimates, IsWithout}
-use Rattle.recover_solution.specs.Recovery as solutions
+use Rattle.file_recovery.specs.Solved.{IsSolved}
 use Rattle.file_recovery.specs.Files.{Source, Equations, Estimated, IsSource}
 use Rattle.file_recovery.specs.Recovery.{IsRecoveredFrom, IsRecovered}
+use Rattle.file_recovery.proofs.SolvedLaws.{solved_parts}
 
 -- the names stand in order
 pub record IsMade (neq : PlainNeq) : Type 0 where
@@ -92,16 +93,12 @@ without_made removed neq after is made = record {
   exponents = ap length is.scales ∙ made.exponents ∙ ap length (sym is.names);
 }
 
-solution_made : (solution : PlainSolution) (weight : Decimal) (scales : ScaleMap) (neq : PlainNeq) → solutions.IsRecovered solution weight scales (Ok neq) → IsMade neq
+solution_made : (solution : PlainSolution) (weight : Decimal) (scales : ScaleMap) (neq : PlainNeq) → IsSolved solution weight scales (Ok neq) → IsMade neq
 solution_made solution weight scales neq h =
-    let matched = went_on _ _ neq h in
-    let estimated = went_on _ _ neq matched.onward in
-    let named = (went_on _ _ neq estimated.onward).onward in
-    let table = went_on _ _ neq named.made in
-    let removed = went_on _ _ neq table.onward in
-    let moved = went_on _ _ neq removed.onward in
-    without_made removed.gives moved.gives neq moved.onward (shifted_made (map (value_of solution.apriori) named.names) (at_estimates solution scales named.names table.gives) moved.gives (length-map named.names _)
-    (estimates_made solution scales named.names table.gives named.named.1 table.given.0.size table.given.0.lower) moved.given)
+    let p = solved_parts solution weight scales neq h in
+    let freed = went_on _ _ neq p.freed in
+    without_made p.removed freed.gives neq freed.onward (shifted_made (map (value_of solution.apriori) p.names) (at_estimates solution scales p.names p.table) freed.gives (length-map p.names _)
+    (estimates_made solution scales p.names p.table p.pairs.named.1 p.size p.lower) freed.given)
 
 -- ---- of a file
 made_from : (weight : Decimal) (scales : ScaleMap) (source : Source) (neq : PlainNeq) → IsRecoveredFrom weight scales source (Ok neq) → IsMade neq

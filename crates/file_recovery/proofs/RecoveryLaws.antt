@@ -23,18 +23,17 @@ use Rattle.recover_neq.specs.Recovery as equations
 use Rattle.recover_neq.proofs.Alone.{recovered_is_one as equations_are_one}
 use Rattle.recover_neq.proofs.LawExact.{multiples_are_exact as multiples_of_equations}
 use Rattle.recover_neq.proofs.NamedLaws.{recovered_names as names_of_equations}
-use Rattle.recover_solution.specs.Recovery as solutions
-use Rattle.recover_solution.proofs.Alone.{recovered_is_one as solutions_are_one, recovered_names as names_of_solution}
-use Rattle.recover_solution.proofs.ExistLaws.{multiples_are_exact as multiples_of_solutions}
+use Rattle.file_recovery.specs.Solved.{IsSolved}
 use Rattle.file_recovery.specs.Files.{Source, Equations, Estimated, rows_of, apriori_of, IsSource}
 use Rattle.file_recovery.specs.Recovery.{IsRecoveredFrom, IsRecovered, OneRecovery, IsExactFrom, IsExact, MultiplesAreExact, IsKnownBy, IsParameterOf, RecoveredParameters}
 use Rattle.file_recovery.specs.declared.faults.FileFault.TheVariants.{Recovery}
+use Rattle.file_recovery.proofs.SolvedLaws.{solved_is_one, multiples_of_solutions, names_of_solution}
 use Rattle.file_recovery.proofs.SourceLaws.{source_is_one, same_source, source_apriori}
 
 -- ---- one recovery
 recovered_from_is_one : (weight : Decimal) (scales : ScaleMap) (source : Source) → IsOne (IsRecoveredFrom weight scales source)
 recovered_from_is_one weight scales (Equations blocks) = renamed_is_one Recovery (equations.IsRecovered blocks weight scales) (equations_are_one blocks weight scales)
-recovered_from_is_one weight scales (Estimated solution) = renamed_is_one Recovery (solutions.IsRecovered solution weight scales) (solutions_are_one solution weight scales)
+recovered_from_is_one weight scales (Estimated solution) = renamed_is_one Recovery (IsSolved solution weight scales) (solved_is_one solution weight scales)
 
 pub recovered_is_one : (plan : PlainPlan) (doc : PlainDoc) (scales : ScaleMap) → IsOne (IsRecovered plan doc scales)
 recovered_is_one plan doc scales =
@@ -51,7 +50,7 @@ multiples_are_exact plan doc S k some exact = record { source = exact.source; ha
 exact_from_some : (weight : Decimal) (source : Source) (S : NamedSystem) → IsExactFrom weight source S → 0 < S.q
 exact_from_some weight (Equations blocks) S exact = exact.some
 exact_from_some weight (Estimated solution) S exact =
-    subst (λ n. 0 < n) (sym (All-head (λ (part : NamedSystem). part.q ≡ exact.moved.q) S (exact.K ∷ []) exact.sum.denominators)) exact.sum.some
+    subst (λ n. 0 < n) (sym (All-head (λ (part : NamedSystem). part.q ≡ exact.freed.moved.q) S (exact.K ∷ []) exact.freed.sum.denominators)) exact.freed.sum.some
 
 pub exact_some : (plan : PlainPlan) (doc : PlainDoc) (S : NamedSystem) → IsExact plan doc S → 0 < S.q
 exact_some plan doc S exact = exact_from_some plan.weight exact.source S exact.exact

@@ -3,7 +3,6 @@ use Rattle.std.proofs.Common.{◌≡◌, ◌∙◌, List, Option, Some, None, Re
 use Rattle.stated_order.specs.Steps.{IsOne}
 use Rattle.stated_order.proofs.StepLaws.{then_is_one, then_gives, then_stops, went_on, ok_same}
 use Rattle.snx_rows.specs.declared.rows.Row.{Row}
-use Rattle.snx_matrices.specs.declared.elements.Cell.{Cell}
 use Rattle.snx_blocks.specs.Documents.{PlainDoc, PlainMatrix}
 use Rattle.snx_blocks.specs.declared.sections.Section.{Section}
 use Rattle.snx_blocks.specs.declared.sections.Section.TheVariants.{Estimates, Apriori, Vector, EstimateMatrix, AprioriMatrix, NormalMatrix}
@@ -13,8 +12,8 @@ use Rattle.control_doc.specs.declared.plans.Form.TheVariants as forms
 use Rattle.control_doc.specs.declared.plans.Held.{Held}
 use Rattle.control_doc.specs.declared.plans.Held.TheVariants as held
 use Rattle.recover_neq.specs.Blocks.{blocks_of}
-use Rattle.recover_solution.specs.Solutions.{PlainConstraint}
-use Rattle.file_recovery.specs.Files.{Source, Equations, Estimated, apriori_of, needed, form_of, Reported, Free, Matrix, Sigmas, IsReported, information, IsConstraint, AreEquations, IsSolution, IsSourceBy, IsSource}
+use Rattle.recover_solution.specs.Solutions.{PlainConstraint, Matrix}
+use Rattle.file_recovery.specs.Files.{Source, Equations, Estimated, apriori_of, needed, form_of, IsReported, AreEquations, IsSolution, IsSourceBy, IsSource}
 use Rattle.file_recovery.specs.declared.faults.FileFault.{FileFault}
 
 -- ---- one source
@@ -23,11 +22,6 @@ reported_is_one held.Auto doc = λ r s a b. a ∙ sym b
 reported_is_one held.Matrix doc = then_is_one (λ r. r ≡ needed AprioriMatrix doc.apriori_matrix) _ (λ r s a b. a ∙ sym b) (λ matrix given r s a b. a ∙ sym b)
 reported_is_one held.Sigma doc = λ r s a b. a ∙ sym b
 reported_is_one held.Nothing doc = λ r s a b. a ∙ sym b
-
-constraint_is_one : (report : Reported) → IsOne (IsConstraint report)
-constraint_is_one Free = λ r s a b. a ∙ sym b
-constraint_is_one Sigmas = λ r s a b. a ∙ sym b
-constraint_is_one (Matrix matrix) = then_is_one (λ r. r ≡ information matrix) _ (λ r s a b. a ∙ sym b) (λ cells given r s a b. a ∙ sym b)
 
 equations_are_one : (doc : PlainDoc) (apriori : List Row) → IsOne (AreEquations doc apriori)
 equations_are_one doc apriori =
@@ -38,9 +32,7 @@ solution_is_one : (choice : Held) (doc : PlainDoc) (apriori : List Row) → IsOn
 solution_is_one choice doc apriori =
     then_is_one (λ r. r ≡ needed Estimates doc.estimates) _ (λ r s a b. a ∙ sym b) (λ estimates given.
     then_is_one (λ r. r ≡ needed EstimateMatrix doc.estimate_matrix) _ (λ r s a b. a ∙ sym b) (λ matrix given.
-    then_is_one (IsReported choice doc) _ (reported_is_one choice doc) (λ report given.
-    then_is_one (λ r. r ≡ information matrix) _ (λ r s a b. a ∙ sym b) (λ cells given.
-    then_is_one (IsConstraint report) _ (constraint_is_one report) (λ constraint given r s a b. a ∙ sym b)))))
+    then_is_one (IsReported choice doc) _ (reported_is_one choice doc) (λ constraint given r s a b. a ∙ sym b)))
 
 source_by_is_one : (form : Form) (choice : Held) (doc : PlainDoc) (apriori : List Row) → IsOne (IsSourceBy form choice doc apriori)
 source_by_is_one forms.Neq choice doc apriori = equations_are_one doc apriori
@@ -69,9 +61,7 @@ solution_apriori : (choice : Held) (doc : PlainDoc) (apriori : List Row) (source
 solution_apriori choice doc apriori source h =
     let estimates = went_on _ _ source h in
     let matrix = went_on _ _ source estimates.onward in
-    let report = went_on _ _ source matrix.onward in
-    let cells = went_on _ _ source report.onward in
-    let constraint = went_on _ _ source cells.onward in
+    let constraint = went_on _ _ source matrix.onward in
     ap apriori_of (ok_same source _ constraint.onward)
 
 apriori_by : (form : Form) (choice : Held) (doc : PlainDoc) (apriori : List Row) (source : Source) → IsSourceBy form choice doc apriori (Ok source) → apriori_of source ≡ apriori
@@ -91,26 +81,16 @@ pub equations_there : (doc : PlainDoc) (apriori vector : List Row) (matrix : Pla
 equations_there doc apriori vector matrix rows elements =
     then_gives (λ r. r ≡ needed Vector doc.vector) _ vector _ (sym (ap (needed Vector) rows)) (then_gives (λ r. r ≡ needed NormalMatrix doc.normal_matrix) _ matrix _ (sym (ap (needed NormalMatrix) elements)) refl)
 
+pub matrix_reported : (doc : PlainDoc) (matrix : PlainMatrix) → doc.apriori_matrix ≡ Some matrix → IsReported held.Matrix doc (Ok (Matrix matrix.content matrix.cells))
+matrix_reported doc matrix is = then_gives (λ r. r ≡ needed AprioriMatrix doc.apriori_matrix) _ matrix _ (sym (ap (needed AprioriMatrix) is)) refl
+
 -- ---- those of a solution, up to the first step that refuses
 module _ (choice : Held) (doc : PlainDoc) (apriori estimates : List Row) (matrix : PlainMatrix) (rows : doc.estimates ≡ Some estimates) (elements : doc.estimate_matrix ≡ Some matrix) where
   pub no_report : (fault : FileFault) → IsReported choice doc (Err fault) → IsSolution choice doc apriori (Err fault)
   no_report fault refused =
       then_gives _ _ estimates _ (sym (ap (needed Estimates) rows)) (then_gives _ _ matrix _ (sym (ap (needed EstimateMatrix) elements)) (then_stops (IsReported choice doc) _ fault refused))
 
-  module _ (report : Reported) (has_report : IsReported choice doc (Ok report)) where
-    pub no_information : (fault : FileFault) → Err fault ≡ information matrix → IsSolution choice doc apriori (Err fault)
-    no_information fault refused =
-        then_gives _ _ estimates _ (sym (ap (needed Estimates) rows)) (then_gives _ _ matrix _ (sym (ap (needed EstimateMatrix) elements))
-        (then_gives (IsReported choice doc) _ report _ has_report (then_stops (λ r. r ≡ information matrix) _ fault refused)))
-
-    module _ (cells : List Cell) (has_cells : Ok cells ≡ information matrix) where
-      pub no_constraint : (fault : FileFault) → IsConstraint report (Err fault) → IsSolution choice doc apriori (Err fault)
-      no_constraint fault refused =
-          then_gives _ _ estimates _ (sym (ap (needed Estimates) rows)) (then_gives _ _ matrix _ (sym (ap (needed EstimateMatrix) elements))
-          (then_gives (IsReported choice doc) _ report _ has_report (then_gives (λ r. r ≡ information matrix) _ cells _ has_cells (then_stops (IsConstraint report) _ fault refused))))
-
-      pub solution_there : (constraint : PlainConstraint) → IsConstraint report (Ok constraint)
-          → IsSolution choice doc apriori (Ok (Estimated (record { apriori = apriori; estimates = estimates; cells = cells; constraint = constraint })))
-      solution_there constraint has_constraint =
-          then_gives _ _ estimates _ (sym (ap (needed Estimates) rows)) (then_gives _ _ matrix _ (sym (ap (needed EstimateMatrix) elements))
-          (then_gives (IsReported choice doc) _ report _ has_report (then_gives (λ r. r ≡ information matrix) _ cells _ has_cells (then_gives (IsConstraint report) _ constraint _ has_constraint refl))))
+  pub solution_there : (constraint : PlainConstraint) → IsReported choice doc (Ok constraint)
+      → IsSolution choice doc apriori (Ok (Estimated (record { apriori = apriori; estimates = estimates; content = matrix.content; cells = matrix.cells; constraint = constraint })))
+  solution_there constraint reported =
+      then_gives _ _ estimates _ (sym (ap (needed Estimates) rows)) (then_gives _ _ matrix _ (sym (ap (needed EstimateMatrix) elements)) (then_gives (IsReported choice doc) _ constraint _ reported refl))

@@ -5,9 +5,6 @@ use Rattle.std.specs.Option.{ok_or}
 use Rattle.stated_order.specs.Steps.{Then}
 use Rattle.param_ids.specs.Plain.{PlainId}
 use Rattle.snx_rows.specs.declared.rows.Row.{Row}
-use Rattle.snx_matrices.specs.declared.elements.Cell.{Cell}
-use Rattle.snx_matrices.specs.declared.elements.Content.{Content}
-use Rattle.snx_matrices.specs.declared.elements.Content.TheVariants.{Cova, Corr, Info}
 use Rattle.snx_blocks.specs.Documents.{PlainDoc, PlainMatrix}
 use Rattle.snx_blocks.specs.declared.sections.Section.{Section}
 use Rattle.snx_blocks.specs.declared.sections.Section.TheVariants.{Estimates, Apriori, Vector, EstimateMatrix, AprioriMatrix, NormalMatrix}
@@ -17,11 +14,9 @@ use Rattle.control_doc.specs.declared.plans.Form.TheVariants as forms
 use Rattle.control_doc.specs.declared.plans.Held.{Held}
 use Rattle.control_doc.specs.declared.plans.Held.TheVariants as held
 use Rattle.recover_neq.specs.Blocks.{Blocks, blocks_of}
-use Rattle.recover_solution.specs.Solutions.{PlainConstraint, PlainSolution}
-use Rattle.recover_solution.specs.Solutions as constraints
-use Rattle.named_tables.specs.declared.faults.RecoverFault.{RecoverFault}
+use Rattle.recover_solution.specs.Solutions.{PlainConstraint, Free, Matrix, Sigmas, PlainSolution}
 use Rattle.file_recovery.specs.declared.faults.FileFault.{FileFault}
-use Rattle.file_recovery.specs.declared.faults.FileFault.TheVariants.{MissingBlock, Unbuilt, Recovery}
+use Rattle.file_recovery.specs.declared.faults.FileFault.TheVariants.{MissingBlock}
 
 -- the blocks of which normal equations are made
 pub data Source : Type 0 where
@@ -52,38 +47,17 @@ form_of forms.Auto doc = form_in doc.vector doc.normal_matrix
 form_of form doc = form
 
 -- ---- constraints
--- the constraints that are removed, with their matrix as it stands in the text
-pub data Reported : Type 0 where
-  Free : Reported
-  Matrix : PlainMatrix → Reported
-  Sigmas : Reported
-
--- without a choice they are those of the a priori matrix where there is one, and else none
-abbrev pub auto_in : Option PlainMatrix → Reported
+-- without a choice those of the a priori matrix are removed where there is one, and else none
+abbrev pub auto_in : Option PlainMatrix → PlainConstraint
 auto_in None = Free
-auto_in (Some matrix) = Matrix matrix
+auto_in (Some matrix) = Matrix matrix.content matrix.cells
 
 -- those that are chosen, or the block that they need
-abbrev pub IsReported : Held → PlainDoc → Result Reported FileFault → Type 0
+abbrev pub IsReported : Held → PlainDoc → Result PlainConstraint FileFault → Type 0
 IsReported held.Auto doc result = result ≡ Ok (auto_in doc.apriori_matrix)
-IsReported held.Matrix doc result = Then (λ r. r ≡ needed AprioriMatrix doc.apriori_matrix) (λ matrix r. r ≡ Ok (Matrix matrix)) result
+IsReported held.Matrix doc result = Then (λ r. r ≡ needed AprioriMatrix doc.apriori_matrix) (λ matrix r. r ≡ Ok (Matrix matrix.content matrix.cells)) result
 IsReported held.Sigma doc result = result ≡ Ok Sigmas
 IsReported held.Nothing doc result = result ≡ Ok Free
-
--- ---- matrices
--- the elements of an information matrix; covariances and correlations are not built yet
-abbrev pub information : PlainMatrix → Result (List Cell) FileFault
-information matrix = elements matrix.content
-  where
-    elements : Content → Result (List Cell) FileFault
-    elements Info = Ok matrix.cells
-    elements Cova = Err Unbuilt
-    elements Corr = Err Unbuilt
-
-abbrev pub IsConstraint : Reported → Result PlainConstraint FileFault → Type 0
-IsConstraint Free result = result ≡ Ok constraints.Free
-IsConstraint Sigmas result = result ≡ Ok constraints.Sigmas
-IsConstraint (Matrix matrix) result = Then (λ r. r ≡ information matrix) (λ cells r. r ≡ Ok (constraints.Matrix cells)) result
 
 -- ---- the blocks
 -- those of normal equations, or the first that is missing
@@ -93,15 +67,13 @@ AreEquations doc apriori =
     Then (λ r. r ≡ needed NormalMatrix doc.normal_matrix) (λ matrix r.
     r ≡ Ok (Equations (blocks_of apriori vector matrix.cells))))
 
--- those of a solution, or the first that is missing; after these a matrix that is not built
+-- those of a solution, or the first that is missing
 abbrev pub IsSolution : Held → PlainDoc → List Row → Result Source FileFault → Type 0
 IsSolution choice doc apriori =
     Then (λ r. r ≡ needed Estimates doc.estimates) (λ estimates.
     Then (λ r. r ≡ needed EstimateMatrix doc.estimate_matrix) (λ matrix.
-    Then (IsReported choice doc) (λ reported.
-    Then (λ r. r ≡ information matrix) (λ cells.
-    Then (IsConstraint reported) (λ constraint r.
-    r ≡ Ok (Estimated (record { apriori = apriori; estimates = estimates; cells = cells; constraint = constraint })))))))
+    Then (IsReported choice doc) (λ constraint r.
+    r ≡ Ok (Estimated (record { apriori = apriori; estimates = estimates; content = matrix.content; cells = matrix.cells; constraint = constraint })))))
 
 abbrev pub IsSourceBy : Form → Held → PlainDoc → List Row → Result Source FileFault → Type 0
 IsSourceBy forms.Neq choice doc apriori = AreEquations doc apriori

@@ -1,3 +1,4 @@
 pub mod Files
+pub mod Solved
 pub mod Recovery
 pub mod Parts

@@ -15,8 +15,7 @@ use Rattle.named_tables.specs.Naming.{AreNamesOf}
 use Rattle.named_tables.specs.Weighted.{scale_of}
 use Rattle.recover_neq.specs.Exact as exact_equations
 use Rattle.recover_neq.specs.Recovery as equations
-use Rattle.recover_solution.specs.Exact as exact_solutions
-use Rattle.recover_solution.specs.Recovery as solutions
+use Rattle.file_recovery.specs.Solved.{IsSolved, IsExactSolution}
 use Rattle.file_recovery.specs.Files.{Source, Equations, Estimated, rows_of, apriori_of, IsSource}
 use Rattle.file_recovery.specs.declared.faults.FileFault.{FileFault}
 use Rattle.file_recovery.specs.declared.faults.FileFault.TheVariants.{Recovery}
@@ -24,10 +23,10 @@ use Rattle.file_recovery.specs.declared.faults.FileFault.TheVariants.{Recovery}
 -- ---- normal equations
 abbrev pub IsRecoveredFrom : Decimal → ScaleMap → Source → Result PlainNeq FileFault → Type 0
 IsRecoveredFrom weight scales (Equations blocks) = Renamed Recovery (equations.IsRecovered blocks weight scales)
-IsRecoveredFrom weight scales (Estimated solution) = Renamed Recovery (solutions.IsRecovered solution weight scales)
+IsRecoveredFrom weight scales (Estimated solution) = Renamed Recovery (IsSolved solution weight scales)
 
--- the normal equations of a file with its weight, or the first cause for which it has none: a block is missing, a matrix is not built, and
--- then those of the blocks
+-- the normal equations of a file with its weight, or the first cause for which it has none: a block is missing, and then
+-- those of the blocks
 abbrev pub IsRecovered : PlainPlan → PlainDoc → ScaleMap → Result PlainNeq FileFault → Type 0
 IsRecovered plan doc scales = Then (IsSource plan doc) (IsRecoveredFrom plan.weight scales)
 
@@ -38,7 +37,7 @@ OneRecovery = (plan : PlainPlan) (doc : PlainDoc) (scales : ScaleMap) → IsOne 
 -- ---- exact systems
 abbrev pub IsExactFrom : Decimal → Source → NamedSystem → Type 0
 IsExactFrom weight (Equations blocks) = exact_equations.IsExact blocks weight
-IsExactFrom weight (Estimated solution) = exact_solutions.IsExact solution weight
+IsExactFrom weight (Estimated solution) = IsExactSolution solution weight
 
 -- an exact system of the blocks of a file
 pub record IsExact (plan : PlainPlan) (doc : PlainDoc) (S : NamedSystem) : Type 0 where

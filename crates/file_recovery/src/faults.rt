@@ -14,9 +14,6 @@ pub enum FileFault {
     /// It lacks a block that is needed.
     #[error("a block is missing")]
     MissingBlock { block: Section },
-    /// A matrix of covariances or correlations would be used, which is not built yet.
-    #[error("a matrix that is not built")]
-    Unbuilt,
     /// Its blocks give none.
     #[error("{0}")]
     Recovery(RecoverFault),

@@ -1,7 +1,7 @@
 //! From files to normal equations by name.
 #![tactic(auto)]
 
-ghost use Rattle.std.specs.Prelude.{◌≡◌, ◌⊎◌, ◌*◌, ◌^◌, map, IfOk, IfErr, Ok, Err};
+ghost use Rattle.std.specs.Prelude.{◌≡◌, ◌≤◌, ◌⊎◌, ◌*◌, ◌^◌, map, IfOk, IfErr, Ok, Err};
 ghost use Rattle.stated_order.specs.Steps.{HasOne};
 ghost use Rattle.snx_blocks.specs.Documents.{IsValid};
 ghost use Rattle.snx_blocks.specs.Views.{doc_view};
@@ -19,6 +19,8 @@ mod faults;
 mod recovering;
 mod reports;
 mod sources;
+mod spreading;
+mod tables;
 
 use crate::recovering::recovered;
 use crate::sources::source_of;
@@ -28,6 +30,7 @@ use neq_stack::Neq;
 use param_ids::Scales;
 use snx_blocks::Doc;
 use std::alloc::Global;
+use std::thread::Threads;
 
 /// The normal equations of a file, in intervals by name, with the weight of its plan: those of its right side and matrix, or those of its
 /// solution without the constraints that the plan removes.
@@ -35,16 +38,22 @@ use std::alloc::Global;
 /// # Errors
 ///
 /// The first cause for which there are none: MissingBlock, for the a priori values, then for the right side and the matrix of normal
-/// equations, or for the estimates, their matrix and the a priori matrix; Unbuilt, where a matrix of covariances or correlations would be
-/// used; then those of `recover_neq` or `recover_solution`; or want of memory.
-pub fn recover<const N: usize>(
+/// equations, or for the estimates, their matrix and the a priori matrix; then those of `recover_neq`, or of a solution those of
+/// `parameters` of `recover_solution`, those of `information_of` of `information_tables` for the estimates' matrix, those of the constraints,
+/// of `information_of` too or Range, and Range for the right side; or want of memory. The number of workers, from 1 to 16, has no effect
+/// yet.
+pub fn recover<R: Threads + Sync, const N: usize>(
+    rt: &R,
     alloc: Global,
     doc: &Doc,
     plan: &FilePlan,
     scales: &Scales,
+    workers: usize,
 ) -> Result<Neq<N>, FileError>
     requires valid { IsValid (doc_view doc.now) }
     requires weight { IsPositiveAndShort (plan_view plan.now).weight }
+    requires some_workers { 1 ≤ workers }
+    requires few_workers { workers ≤ 16 }
     ensures neq { IfOk result (λ neq. IsRecovered (plan_view plan.now) (doc_view doc.now) scales.now (Ok (neq_view neq))) }
     ensures sound { IfOk result (λ neq. IsSound (neq_view neq)) }
     ensures refused { IfErr result (λ cause. (cause ≡ Memory) ⊎ ((fault : FileFault) × (cause ≡ Fault fault) × IsRecovered (plan_view plan.now) (doc_view doc.now) scales.now (Err fault))) }
@@ -54,7 +63,7 @@ pub fn recover<const N: usize>(
     ensures exponents { IfOk result (λ neq. (neq_view neq).scales ≡ map (scale_of scales.now) (neq_view neq).names) }
 {
     match source_of(plan, doc) {
-        Ok(source) => recovered(alloc, &source, &plan.weight, scales),
+        Ok(source) => recovered(rt, alloc, &source, &plan.weight, scales, workers),
         Err(fault) => Err(FileError::Fault(fault)),
     }
 }

@@ -13,7 +13,7 @@ ghost use Rattle.file_recovery.specs.Parts.{Gives, AreRead, IsReadSource, equati
 ghost use Rattle.file_recovery.specs.declared.faults.FileFault.TheVariants.{MissingBlock};
 
 use crate::faults::FileFault;
-use crate::reports::{constraint, information, reported};
+use crate::reports::reported;
 use control_doc::{FilePlan, Form, Held};
 use recover_solution::Solution;
 use snx_blocks::{Doc, Section};
@@ -82,8 +82,7 @@ fn equations_in<'a>(apriori: &'a [Row], doc: &'a Doc) -> Result<Equations<'a>, F
     })
 }
 
-/// The blocks of the solution of a file with these a priori values, or the first that is missing; after these a matrix that is not
-/// built.
+/// The blocks of the solution of a file with these a priori values, or the first that is missing.
 fn solution_in<'a>(
     choice: Held,
     apriori: &'a [Row],
@@ -100,13 +99,12 @@ fn solution_in<'a>(
     let Some(matrix) = &doc.estimate_matrix else {
         return Err(missing(Section::EstimateMatrix));
     };
-    let report = reported(choice, doc)?;
-    let cells = information(matrix)?;
-    let constraint = constraint(report)?;
+    let constraint = reported(choice, doc)?;
     Ok(Solution {
         apriori,
         estimates,
-        cells,
+        content: matrix.content,
+        cells: &matrix.cells,
         constraint,
     })
 }

@@ -1,5 +1,5 @@
 -- Elements at the places of their names.
-use Rattle.std.proofs.Common.{◌≡◌, ◌≤◌, ◌<◌, ◌+◌, ◌-◌, ◌∙◌, ◌⊎◌, inl, inr, ℕ, ℤ, pos, ◌-ℤ◌, true, false, cond, List, [], ◌∷◌, ◌++◌, Option, Some, None, length, map, drop, get_or, sym, ap, subst, arith}
+use Rattle.std.proofs.Common.{◌≡◌, ◌≤◌, ◌<◌, ◌+◌, ◌-◌, ◌∙◌, ◌⊎◌, inl, inr, ℕ, ℤ, true, false, cond, List, [], ◌∷◌, ◌++◌, Option, Some, None, length, map, drop, get_or, refl, sym, ap, subst, arith}
 use Rattle.std.specs.List.{find}
 use Rattle.std.specs.Net.Reader.{map_or}
 use Rattle.std.proofs.Math.Decide.{ℕ_discrete}
@@ -7,12 +7,13 @@ use Rattle.std.proofs.lemmas.Bool.Decides.{nat_tests}
 use Rattle.std.proofs.lemmas.Int.{ints}
 use Rattle.std.proofs.lemmas.List.{drop_all, get_or_read}
 use Rattle.whole_numbers.specs.Intervals.{Interval}
-use Rattle.whole_numbers.specs.Lists.{at}
 use Rattle.whole_numbers.proofs.ListLaws.{each_push}
 use Rattle.decimal_e.specs.Decimals.{Decimal, product}
 use Rattle.sym_blocks.specs.Tables.{SymTable, entry_at, zero_interval, IsPair}
 use Rattle.snx_rows.specs.declared.rows.Row.{Row}
 use Rattle.snx_matrices.specs.declared.elements.Cell.{Cell}
+use Rattle.snx_matrices.specs.declared.elements.Content.{Content}
+use Rattle.snx_matrices.specs.declared.elements.Content.TheVariants.{Cova, Corr, Info}
 use Rattle.snx_rows.specs.Named.{zero_decimal}
 use Rattle.snx_matrices.specs.Named.{is_at, given_at}
 use Rattle.named_tables.specs.Parts.{StandsFor, ranked, ranked_number, right_number, pair_power, row_power, ShowsEntries}
@@ -49,20 +50,25 @@ pub behind : (cell : Cell) (cells : List Cell) (i j : ℕ) → is_at i j cell �
 behind cell cells i j apart = ap (λ b. map_or (cond b (Some cell) (find (is_at i j) cells)) zero_decimal (λ (c : Cell). c.value)) apart
 
 -- the exponents of a pair, in either order
-same_power : (f : ℕ → ℤ) (row col i j : ℕ) → IsPair row col i j → pos 18 -ℤ f row -ℤ f col ≡ pos 18 -ℤ f i -ℤ f j
-same_power f row col i j (inl p) = ap (λ r. pos 18 -ℤ f r -ℤ f col) (sym p.0) ∙ ap (λ c. pos 18 -ℤ f i -ℤ f c) (sym p.1)
-same_power f row col i j (inr p) = let turned : pos 18 -ℤ f row -ℤ f col ≡ pos 18 -ℤ f col -ℤ f row = omega (arith, ints) in turned ∙ ap (λ c. pos 18 -ℤ f c -ℤ f row) (sym p.0) ∙ ap (λ r. pos 18 -ℤ f i -ℤ f r) (sym p.1)
+turned_power : (content : Content) (exponents : List ℤ) (i j : ℕ) → pair_power content exponents i j ≡ pair_power content exponents j i
+turned_power Info exponents i j = omega (arith, ints)
+turned_power Cova exponents i j = omega (arith, ints)
+turned_power Corr exponents i j = refl
 
-module _ (weight : Decimal) (cells : List Cell) (ranks : List ℕ) (exponents : List ℤ) where
-  pub none_shown : (k : ℕ) (table : SymTable) → length cells ≤ k → ((i j : ℕ) → i < length exponents → j < length exponents → entry_at table i j ≡ zero_interval) → ShowsEntries weight (drop k cells) ranks exponents table
+same_power : (content : Content) (exponents : List ℤ) (row col i j : ℕ) → IsPair row col i j → pair_power content exponents row col ≡ pair_power content exponents i j
+same_power content exponents row col i j (inl p) = ap (λ r. pair_power content exponents r col) (sym p.0) ∙ ap (pair_power content exponents i) (sym p.1)
+same_power content exponents row col i j (inr p) = turned_power content exponents row col ∙ ap (λ c. pair_power content exponents c row) (sym p.0) ∙ ap (pair_power content exponents i) (sym p.1)
+
+module _ (content : Content) (weight : Decimal) (cells : List Cell) (ranks : List ℕ) (exponents : List ℤ) where
+  pub none_shown : (k : ℕ) (table : SymTable) → length cells ≤ k → ((i j : ℕ) → i < length exponents → j < length exponents → entry_at table i j ≡ zero_interval) → ShowsEntries content weight (drop k cells) ranks exponents table
   none_shown k table all zeros i j li lj =
       let none : ranked_number weight (drop k cells) ranks i j ≡ product weight zero_decimal = ap (λ cs. ranked_number weight cs ranks i j) (drop_all k cells all) in
-      subst (λ d. StandsFor d (pair_power exponents i j) (entry_at table i j)) (sym none) (zero_stands weight (pair_power exponents i j) (entry_at table i j) (zeros i j li lj))
+      subst (λ d. StandsFor d (pair_power content exponents i j) (entry_at table i j)) (sym none) (zero_stands weight (pair_power content exponents i j) (entry_at table i j) (zeros i j li lj))
 
-  pub one_shown : (k : ℕ) (cell : Cell) (row col : ℕ) (scale : ℤ) (w : Interval) (a b : SymTable) → 1 ≤ k → k ≤ length cells → cell ≡ get_or cells (k - 1) cell → row ≡ get_or ranks cell.row 0 → col ≡ get_or ranks cell.col 0 → scale ≡ pair_power exponents row col
-      → StandsFor (product weight cell.value) scale w → ShowsEntries weight (drop k cells) ranks exponents a
+  pub one_shown : (k : ℕ) (cell : Cell) (row col : ℕ) (scale : ℤ) (w : Interval) (a b : SymTable) → 1 ≤ k → k ≤ length cells → cell ≡ get_or cells (k - 1) cell → row ≡ get_or ranks cell.row 0 → col ≡ get_or ranks cell.col 0 → scale ≡ pair_power content exponents row col
+      → StandsFor (product weight cell.value) scale w → ShowsEntries content weight (drop k cells) ranks exponents a
       → ((i j : ℕ) → IsPair row col i j → entry_at b i j ≡ w) → ((i j : ℕ) → i < length exponents → j < length exponents → ¬ (IsPair row col i j) → entry_at b i j ≡ entry_at a i j)
-      → ShowsEntries weight (drop (k - 1) cells) ranks exponents b
+      → ShowsEntries content weight (drop (k - 1) cells) ranks exponents b
   one_shown k cell row col scale w a b some within is row_is col_is scale_is stands before here others i j li lj =
       let moved : Cell = ranked ranks cell in
       let rest : List Cell = map (ranked ranks) (drop k cells) in
@@ -72,14 +78,14 @@ module _ (weight : Decimal) (cells : List Cell) (ranks : List ℕ) (exponents : 
         | inl h ↦
             let pair : IsPair row col i j = subst (λ r. IsPair r col i j) (sym row_is) (subst (λ c. IsPair moved.row c i j) (sym col_is) h.1) in
             let value : ranked_number weight (drop (k - 1) cells) ranks i j ≡ product weight cell.value = split ∙ ap (product weight) (in_front moved rest i j h.0) in
-            let power : scale ≡ pair_power exponents i j = scale_is ∙ same_power (at exponents) row col i j pair in
-            subst (λ d. StandsFor d (pair_power exponents i j) (entry_at b i j)) (sym value)
+            let power : scale ≡ pair_power content exponents i j = scale_is ∙ same_power content exponents row col i j pair in
+            subst (λ d. StandsFor d (pair_power content exponents i j) (entry_at b i j)) (sym value)
             (subst (λ p. StandsFor (product weight cell.value) p (entry_at b i j)) power (subst (StandsFor (product weight cell.value) scale) (sym (here i j pair)) stands))
         | inr h ↦
             let apart : IsPair row col i j → ⊥ = λ p. h.1 (subst (λ r. IsPair r moved.col i j) row_is (subst (λ c. IsPair row c i j) col_is p)) in
             let value : ranked_number weight (drop (k - 1) cells) ranks i j ≡ ranked_number weight (drop k cells) ranks i j = split ∙ ap (product weight) (behind moved rest i j h.0) in
-            subst (λ d. StandsFor d (pair_power exponents i j) (entry_at b i j)) (sym value)
-            (subst (StandsFor (ranked_number weight (drop k cells) ranks i j) (pair_power exponents i j)) (sym (others i j li lj apart)) (before i j li lj))
+            subst (λ d. StandsFor d (pair_power content exponents i j) (entry_at b i j)) (sym value)
+            (subst (StandsFor (ranked_number weight (drop k cells) ranks i j) (pair_power content exponents i j)) (sym (others i j li lj apart)) (before i j li lj))
       ]
 
 -- ---- one more interval of the right side

@@ -14,6 +14,7 @@ use Rattle.std.proofs.lemmas.List.Sums.{passes_at_first, fails_before_first}
 use Rattle.std.proofs.lemmas.Option.{slice_get-get_or, slice_get_cases, get_or_from_slice_get}
 use Rattle.whole_numbers.specs.Intervals.{Interval, size}
 use Rattle.decimal_e.specs.Decimals.{Decimal, product}
+use Rattle.decimal_e.specs.Fractions.{Means}
 use Rattle.decimal_e.specs.Scales.{decimal_interval}
 use Rattle.sym_blocks.specs.Tables.{SymTable, entry_at, zero_interval}
 use Rattle.param_ids.specs.Plain.{PlainId}
@@ -26,11 +27,15 @@ use Rattle.snx_rows.specs.declared.rows.Row.{Row}
 use Rattle.snx_matrices.specs.Elements.{AreElementsOf, IsPlaced}
 use Rattle.snx_matrices.specs.Named.{is_at, given_at, element_of}
 use Rattle.snx_matrices.specs.declared.elements.Cell.{Cell}
+use Rattle.snx_matrices.specs.declared.elements.Content.{Content}
+use Rattle.snx_matrices.specs.declared.elements.Content.TheVariants.{Info}
 use Rattle.neq_stack.specs.ByName.{place_in, entry_at_places, right_at_place}
-use Rattle.neq_stack.specs.Systems.{name_at}
+use Rattle.sys_model.specs.Scaling.{HoldsTimes}
+use Rattle.neq_stack.specs.Systems.{NamedSystem, name_at}
+use Rattle.neq_stack.proofs.MeaningLaws.{means_holds}
 use Rattle.named_tables.specs.Naming.{AreNamesOf}
-use Rattle.named_tables.specs.Weighted.{weighted_element, entry_power, right_power}
-use Rattle.named_tables.specs.Tables.{HasNames, IsTable, IsTableOf, IsColumn, value_interval}
+use Rattle.named_tables.specs.Weighted.{weighted_element, entry_power, element_power, right_power}
+use Rattle.named_tables.specs.Tables.{HasNames, IsTable, IsTableOf, IsTableBy, IsTableOfContent, IsColumn, LiesInTable, value_interval}
 use Rattle.named_tables.specs.Parts.{IsModest}
 use Rattle.named_tables.proofs.CellLaws.{behind}
 use Rattle.named_tables.proofs.NameLaws.{contains_id}
@@ -122,11 +127,11 @@ zero_there : (weight d : Decimal) (k : ℤ) → d ≡ zero_decimal → zero_inte
 zero_there weight d k none = sym (weighted_zero weight k) ∙ ap (λ x. decimal_interval (product weight x) k) (sym none)
 
 -- ---- a table at any names
-module _ (rows : List Row) (cells : List Cell) (weight : Decimal) (scales : ScaleMap) (names : List PlainId) (table : SymTable) where
-  pub table_everywhere : IsTableOf rows cells weight scales names table → AreDistinct (λ row. row.id) rows → AreElementsOf (length rows) cells → IsNames names → All (HasNames names rows) cells
-      → (one other : PlainId) → entry_at_places table (place_in names one) (place_in names other) ≡ decimal_interval (weighted_element rows cells weight one other) (entry_power scales one other)
-  table_everywhere are apart elements in_order has one other =
-      let power = entry_power scales one other in
+module _ (content : Content) (rows : List Row) (cells : List Cell) (weight : Decimal) (scales : ScaleMap) (names : List PlainId) (table : SymTable) where
+  pub elements_everywhere : IsTableOfContent content rows cells weight scales names table → AreDistinct (λ row. row.id) rows → AreElementsOf (length rows) cells → IsNames names → All (HasNames names rows) cells
+      → (one other : PlainId) → entry_at_places table (place_in names one) (place_in names other) ≡ decimal_interval (weighted_element rows cells weight one other) (element_power content scales one other)
+  elements_everywhere are apart elements in_order has one other =
+      let power = element_power content scales one other in
       elim (there_or_absent names one) [
         | inl a ↦ elim (there_or_absent names other) [
           | inl b ↦
@@ -143,8 +148,8 @@ module _ (rows : List Row) (cells : List Cell) (weight : Decimal) (scales : Scal
       ]
 
   -- none of its intervals passes the bound
-  pub table_at_most : IsTable rows cells weight scales names (Ok table) → (one other : PlainId) → size (entry_at_places table (place_in names one) (place_in names other)) ≤ 10 ^ 34
-  table_at_most is one other =
+  pub elements_at_most : IsTableBy content rows cells weight scales names (Ok table) → (one other : PlainId) → size (entry_at_places table (place_in names one) (place_in names other)) ≤ 10 ^ 34
+  elements_at_most is one other =
       elim (there_or_absent names one) [
         | inl a ↦ elim (there_or_absent names other) [
           | inl b ↦ subst IsModest (sym (ap (λ o. entry_at_places table o (place_in names other)) a.place ∙ ap (entry_at_places table (Some a.at)) b.place)) (each_modest (length names) table lower a.at b.at a.within b.within)
@@ -160,6 +165,24 @@ module _ (rows : List Row) (cells : List Cell) (weight : Decimal) (scales : Scal
       lower i j l h =
           let fit = is.1 i j l h in
           subst IsModest (sym (is.0.entries i j (name_at names i) (name_at names j) (name_here names i l) (name_here names j (omega arith)))) fit.modest
+
+-- the same of an information matrix
+pub table_everywhere : (rows : List Row) (cells : List Cell) (weight : Decimal) (scales : ScaleMap) (names : List PlainId) (table : SymTable)
+    → IsTableOf rows cells weight scales names table → AreDistinct (λ row. row.id) rows → AreElementsOf (length rows) cells → IsNames names → All (HasNames names rows) cells
+    → (one other : PlainId) → entry_at_places table (place_in names one) (place_in names other) ≡ decimal_interval (weighted_element rows cells weight one other) (entry_power scales one other)
+table_everywhere = elements_everywhere Info
+
+pub table_at_most : (rows : List Row) (cells : List Cell) (weight : Decimal) (scales : ScaleMap) (names : List PlainId) (table : SymTable)
+    → IsTable rows cells weight scales names (Ok table) → (one other : PlainId) → size (entry_at_places table (place_in names one) (place_in names other)) ≤ 10 ^ 34
+table_at_most = elements_at_most Info
+
+-- so a system lies in the table of its elements
+pub lies_in_table : (rows : List Row) (cells : List Cell) (weight : Decimal) (scales : ScaleMap) (names : List PlainId) (table : SymTable) (E : NamedSystem)
+    → IsTableOf rows cells weight scales names table → AreDistinct (λ row. row.id) rows → AreElementsOf (length rows) cells → IsNames names → All (HasNames names rows) cells
+    → 0 < E.q → ((one other : PlainId) → Means (weighted_element rows cells weight one other) (E.a one other) E.q) → LiesInTable scales names table E
+lies_in_table rows cells weight scales names table E are apart elements in_order has some means one other =
+    subst (λ w. HoldsTimes w (E.a one other) E.q (entry_power scales one other)) (sym (table_everywhere rows cells weight scales names table are apart elements in_order has one other))
+    (means_holds (weighted_element rows cells weight one other) (E.a one other) E.q (entry_power scales one other) some (means one other))
 
 -- ---- a right side at any names
 module _ (rows : List Row) (weight : Decimal) (scales : ScaleMap) (names : List PlainId) (right : List Interval) where

@@ -1,6 +1,7 @@
 pub mod Alone
 pub mod CellLaws
 pub mod ColumnLaws
+pub mod DigitLaws
 pub mod EntryLaws
 pub mod MatchLaws
 pub mod MeaningLaws

@@ -1,5 +1,5 @@
 -- Elements by the places of names are those by the places of rows.
-use Rattle.std.proofs.Common.{◌≡◌, ◌<◌, ◌+◌, ◌∙◌, ◌||◌, ◌&&◌, ◌==◌, ◌++◌, inl, inr, ℕ, ℤ, pos, ◌-ℤ◌, Bool, true, false, not, cond, List, [], ◌∷◌, Option, Some, All, Contains, length, map, get_or, slice_get, refl, sym, ap, subst, arith}
+use Rattle.std.proofs.Common.{◌≡◌, ◌<◌, ◌+◌, ◌∙◌, ◌||◌, ◌&&◌, ◌==◌, ◌++◌, inl, inr, ℕ, ℤ, pos, ◌+ℤ◌, ◌-ℤ◌, Bool, true, false, not, cond, List, [], ◌∷◌, Option, Some, All, Contains, length, map, get_or, slice_get, refl, sym, ap, subst, arith}
 use Rattle.std.specs.List.{find}
 use Rattle.std.specs.Net.Reader.{map_or}
 use Rattle.std.proofs.Math.Decide.{ℕ_discrete}
@@ -21,8 +21,10 @@ use Rattle.snx_rows.specs.declared.rows.Row.{Row}
 use Rattle.snx_matrices.specs.Elements.{IsPlaced}
 use Rattle.snx_matrices.specs.Named.{is_at, given_at}
 use Rattle.snx_matrices.specs.declared.elements.Cell.{Cell}
+use Rattle.snx_matrices.specs.declared.elements.Content.{Content}
+use Rattle.snx_matrices.specs.declared.elements.Content.TheVariants.{Cova, Corr, Info}
 use Rattle.named_tables.specs.Tables.{HasNames}
-use Rattle.named_tables.specs.Weighted.{weighted_element, entry_power, scale_of}
+use Rattle.named_tables.specs.Weighted.{weighted_element, element_power, scale_of}
 use Rattle.named_tables.specs.Parts.{AreRanks, IsRanked, ranked, ranked_number, pair_power}
 use Rattle.named_tables.proofs.NameLaws.{apart_names, one_rank}
 
@@ -141,9 +143,10 @@ pub exponent_is : (scales : ScaleMap) (names : List PlainId) (exponents : List �
 exponent_is scales names exponents i one are is =
     ap (λ l. at l i) are ∙ get_or-map (scale_of scales) names i one (pos 0) (slice_get_within names i one is) ∙ ap (scale_of scales) (get_or_from_slice_get names i one one is)
 
-same_powers : (s t u v : ℤ) → s ≡ u → t ≡ v → pos 18 -ℤ s -ℤ t ≡ pos 18 -ℤ u -ℤ v
-same_powers s t u v one other = ap (λ x. pos 18 -ℤ x -ℤ t) one ∙ ap (λ x. pos 18 -ℤ u -ℤ x) other
-
-pub power_is : (scales : ScaleMap) (names : List PlainId) (exponents : List ℤ) (i j : ℕ) (one other : PlainId) → exponents ≡ map (scale_of scales) names → slice_get names i ≡ Some one → slice_get names j ≡ Some other → pair_power exponents i j ≡ entry_power scales one other
-power_is scales names exponents i j one other scaled here there =
-    same_powers (at exponents i) (at exponents j) (scale_of scales one) (scale_of scales other) (exponent_is scales names exponents i one scaled here) (exponent_is scales names exponents j other scaled there)
+pub power_is : (content : Content) (scales : ScaleMap) (names : List PlainId) (exponents : List ℤ) (i j : ℕ) (one other : PlainId) → exponents ≡ map (scale_of scales) names → slice_get names i ≡ Some one → slice_get names j ≡ Some other
+    → pair_power content exponents i j ≡ element_power content scales one other
+power_is Info scales names exponents i j one other scaled here there =
+    ap (λ x. pos 18 -ℤ x -ℤ at exponents j) (exponent_is scales names exponents i one scaled here) ∙ ap (λ x. pos 18 -ℤ scale_of scales one -ℤ x) (exponent_is scales names exponents j other scaled there)
+power_is Cova scales names exponents i j one other scaled here there =
+    ap (λ x. pos 24 +ℤ x +ℤ at exponents j) (exponent_is scales names exponents i one scaled here) ∙ ap (λ x. pos 24 +ℤ scale_of scales one +ℤ x) (exponent_is scales names exponents j other scaled there)
+power_is Corr scales names exponents i j one other scaled here there = refl

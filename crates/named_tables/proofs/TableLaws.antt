@@ -17,9 +17,10 @@ use Rattle.snx_rows.specs.Blocks.{AreDistinct}
 use Rattle.snx_rows.specs.declared.rows.Row.{Row}
 use Rattle.snx_matrices.specs.Elements.{IsPlaced}
 use Rattle.snx_matrices.specs.declared.elements.Cell.{Cell}
+use Rattle.snx_matrices.specs.declared.elements.Content.{Content}
 use Rattle.neq_stack.specs.Systems.{name_at, no_name}
-use Rattle.named_tables.specs.Weighted.{weighted_element, weighted_value, entry_power, right_power, scale_of}
-use Rattle.named_tables.specs.Tables.{HasNames, IsTable, IsTableOf, IsColumn, EntryFits, ValueFits, value_interval}
+use Rattle.named_tables.specs.Weighted.{weighted_element, weighted_value, element_power, right_power, scale_of}
+use Rattle.named_tables.specs.Tables.{HasNames, IsTableBy, IsTableOfContent, IsColumn, ElementFits, ValueFits, value_interval}
 use Rattle.named_tables.specs.Parts.{AreRanks, IsModest, IsShownTable, IsShownColumn, ShowsEntries, StandsFor, ranked_number}
 use Rattle.named_tables.specs.declared.faults.RecoverFault.TheVariants.{Range}
 use Rattle.named_tables.proofs.RankLaws.{number_is, power_is}
@@ -43,38 +44,38 @@ each_modest n table modest i j li lj =
     ]
 
 -- intervals by the places of names are those for the names
-pub table_shown : (rows : List Row) (cells : List Cell) (weight : Decimal) (scales : ScaleMap) (names : List PlainId) (ranks : List ℕ) (exponents : List ℤ) (table : SymTable)
+pub table_shown : (content : Content) (rows : List Row) (cells : List Cell) (weight : Decimal) (scales : ScaleMap) (names : List PlainId) (ranks : List ℕ) (exponents : List ℤ) (table : SymTable)
     → AreDistinct (λ row. row.id) rows → All (IsPlaced (length rows)) cells → IsNames names → All (HasNames names rows) cells → AreRanks names rows ranks → exponents ≡ map (scale_of scales) names
-    → table.size ≡ length exponents → length table.entries ≡ before table.size → ShowsEntries weight cells ranks exponents table → IsShownTable rows cells weight scales names table
-table_shown rows cells weight scales names ranks exponents table apart placed in_order has are scaled size lower shows =
+    → table.size ≡ length exponents → length table.entries ≡ before table.size → ShowsEntries content weight cells ranks exponents table → IsShownTable content rows cells weight scales names table
+table_shown content rows cells weight scales names ranks exponents table apart placed in_order has are scaled size lower shows =
     let count = count_is scales names exponents scaled in
     record {
       size = size ∙ count;
       lower = lower;
       entries = λ i j one other here there.
-          subst (λ d. StandsFor d (entry_power scales one other) (entry_at table i j)) (number_is names rows ranks apart in_order.0 are cells weight i j one other placed has here there)
-          (subst (λ k. StandsFor (ranked_number weight cells ranks i j) k (entry_at table i j)) (power_is scales names exponents i j one other scaled here there)
+          subst (λ d. StandsFor d (element_power content scales one other) (entry_at table i j)) (number_is names rows ranks apart in_order.0 are cells weight i j one other placed has here there)
+          (subst (λ k. StandsFor (ranked_number weight cells ranks i j) k (entry_at table i j)) (power_is content scales names exponents i j one other scaled here there)
           (shows i j (let w = slice_get_within names i one here in omega arith) (let w = slice_get_within names j other there in omega arith)));
     }
 
-pub if_shown : {E : Type 0} (rows : List Row) (cells : List Cell) (weight : Decimal) (scales : ScaleMap) (names : List PlainId) (ranks : List ℕ) (exponents : List ℤ) (result : Result SymTable E)
+pub if_shown : {E : Type 0} (content : Content) (rows : List Row) (cells : List Cell) (weight : Decimal) (scales : ScaleMap) (names : List PlainId) (ranks : List ℕ) (exponents : List ℤ) (result : Result SymTable E)
     → AreDistinct (λ row. row.id) rows → All (IsPlaced (length rows)) cells → IsNames names → All (HasNames names rows) cells → AreRanks names rows ranks → exponents ≡ map (scale_of scales) names
-    → IfOk result (λ table. table.size ≡ length exponents) → IfOk result (λ table. length table.entries ≡ before table.size) → IfOk result (ShowsEntries weight cells ranks exponents) → IfOk result (IsShownTable rows cells weight scales names)
-if_shown rows cells weight scales names ranks exponents (Ok table) apart placed in_order has are scaled size lower shows = table_shown rows cells weight scales names ranks exponents table apart placed in_order has are scaled size lower shows
-if_shown rows cells weight scales names ranks exponents (Err e) apart placed in_order has are scaled size lower shows = tt
+    → IfOk result (λ table. table.size ≡ length exponents) → IfOk result (λ table. length table.entries ≡ before table.size) → IfOk result (ShowsEntries content weight cells ranks exponents) → IfOk result (IsShownTable content rows cells weight scales names)
+if_shown content rows cells weight scales names ranks exponents (Ok table) apart placed in_order has are scaled size lower shows = table_shown content rows cells weight scales names ranks exponents table apart placed in_order has are scaled size lower shows
+if_shown content rows cells weight scales names ranks exponents (Err e) apart placed in_order has are scaled size lower shows = tt
 
-module _ (rows : List Row) (cells : List Cell) (weight : Decimal) (scales : ScaleMap) (names : List PlainId) (table : SymTable) (shown : IsShownTable rows cells weight scales names table) where
-  entry_stands : (i j : ℕ) → i < length names → j < length names → StandsFor (weighted_element rows cells weight (name_at names i) (name_at names j)) (entry_power scales (name_at names i) (name_at names j)) (entry_at table i j)
+module _ (content : Content) (rows : List Row) (cells : List Cell) (weight : Decimal) (scales : ScaleMap) (names : List PlainId) (table : SymTable) (shown : IsShownTable content rows cells weight scales names table) where
+  entry_stands : (i j : ℕ) → i < length names → j < length names → StandsFor (weighted_element rows cells weight (name_at names i) (name_at names j)) (element_power content scales (name_at names i) (name_at names j)) (entry_at table i j)
   entry_stands i j li lj = shown.entries i j (name_at names i) (name_at names j) (name_here names i li) (name_here names j lj)
 
   -- from modest intervals to elements that fit, and back
-  entry_to : (i j : ℕ) → i < length names → j ≤ i → IsModest (entry_at table i j) → EntryFits rows cells weight scales names i j
+  entry_to : (i j : ℕ) → i < length names → j ≤ i → IsModest (entry_at table i j) → ElementFits content rows cells weight scales names i j
   entry_to i j l h modest = (entry_stands i j l (omega arith)).fits modest
 
-  entry_from : (i j : ℕ) → i < length names → j ≤ i → EntryFits rows cells weight scales names i j → IsModest (entry_at table i j)
+  entry_from : (i j : ℕ) → i < length names → j ≤ i → ElementFits content rows cells weight scales names i j → IsModest (entry_at table i j)
   entry_from i j l h fit = let s = entry_stands i j l (omega arith) in subst IsModest (sym (s.here fit)) fit.modest
 
-  table_made : HoldsLower (length names) (λ i j. IsModest (entry_at table i j)) → IsTableOf rows cells weight scales names table
+  table_made : HoldsLower (length names) (λ i j. IsModest (entry_at table i j)) → IsTableOfContent content rows cells weight scales names table
   table_made modest = record {
     size = shown.size;
     lower = shown.lower;
@@ -82,19 +83,19 @@ module _ (rows : List Row) (cells : List Cell) (weight : Decimal) (scales : Scal
   }
 
   -- where all intervals are modest, the table is that of the elements, all of which fit
-  pub is_table : HoldsLower table.size (λ i j. IsModest (entry_at table i j)) → IsTable rows cells weight scales names (Ok table)
+  pub is_table : HoldsLower table.size (λ i j. IsModest (entry_at table i j)) → IsTableBy content rows cells weight scales names (Ok table)
   is_table all =
       let modest : HoldsLower (length names) (λ i j. IsModest (entry_at table i j)) = subst (λ n. HoldsLower n (λ i j. IsModest (entry_at table i j))) shown.size all in
       (table_made modest, λ i j l h. entry_to i j l h (modest i j l h))
 
   -- the first that is not, is that of the first element that does not fit
-  pub no_table : (i j : ℕ) (row col : PlainId) → IsFirstLowerFailure table.size (λ i j. IsModest (entry_at table i j)) i j → slice_get names i ≡ Some row → slice_get names j ≡ Some col → IsTable rows cells weight scales names (Err (Range row col))
+  pub no_table : (i j : ℕ) (row col : PlainId) → IsFirstLowerFailure table.size (λ i j. IsModest (entry_at table i j)) i j → slice_get names i ≡ Some row → slice_get names j ≡ Some col → IsTableBy content rows cells weight scales names (Err (Range row col))
   no_table i j row col first row_is col_is =
       let there : IsFirstLowerFailure (length names) (λ i j. IsModest (entry_at table i j)) i j = subst (λ n. IsFirstLowerFailure n (λ i j. IsModest (entry_at table i j)) i j) shown.size first in
       record {
         i = i;
         j = j;
-        first = first_lower_failure_moves (length names) (λ i j. IsModest (entry_at table i j)) (EntryFits rows cells weight scales names) i j entry_to entry_from there;
+        first = first_lower_failure_moves (length names) (λ i j. IsModest (entry_at table i j)) (ElementFits content rows cells weight scales names) i j entry_to entry_from there;
         row_is = row_is;
         col_is = col_is;
       }

@@ -1,3 +1,4 @@
+pub mod Deviations
 pub mod Naming
 pub mod Weighted
 pub mod Tables

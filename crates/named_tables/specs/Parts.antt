@@ -1,5 +1,6 @@
--- For private functions alone: rows and elements by the places of names, and intervals in memory.
-use Rattle.std.specs.Prelude.{◌≡◌, ◌≤◌, ◌<◌, ◌^◌, ℕ, ℤ, pos, ◌-ℤ◌, List, length, map, Contains, Option, None, Some, slice_get, slice_index, slice_index_or}
+-- Rows and elements by the places of names, and intervals in memory that may be too great yet. These serve private functions, and crates
+-- that make more of such intervals.
+use Rattle.std.specs.Prelude.{◌≡◌, ◌≤◌, ◌<◌, ◌^◌, ℕ, ℤ, pos, ◌+ℤ◌, ◌-ℤ◌, List, length, map, Contains, Option, None, Some, slice_get, slice_index, slice_index_or}
 use Rattle.std.specs.Net.Reader.{map_or}
 use Rattle.whole_numbers.specs.Intervals.{Interval, size}
 use Rattle.whole_numbers.specs.Lists.{at}
@@ -12,7 +13,9 @@ use Rattle.snx_rows.specs.Named.{zero_decimal}
 use Rattle.snx_rows.specs.declared.rows.Row.{Row}
 use Rattle.snx_matrices.specs.Named.{given_at}
 use Rattle.snx_matrices.specs.declared.elements.Cell.{Cell}
-use Rattle.named_tables.specs.Weighted.{weighted_element, weighted_value, entry_power, right_power, Fits}
+use Rattle.snx_matrices.specs.declared.elements.Content.{Content}
+use Rattle.snx_matrices.specs.declared.elements.Content.TheVariants.{Cova, Corr, Info}
+use Rattle.named_tables.specs.Weighted.{weighted_element, weighted_value, element_power, right_power, Fits}
 
 -- ---- intervals in memory
 -- an interval is at most 10^34 in size
@@ -57,23 +60,25 @@ abbrev pub right_number : Decimal → List (Option Row) → ℕ → Decimal
 right_number weight rows i = product weight (map_or (slice_index_or rows i None) zero_decimal (λ row. row.value))
 
 -- the powers of ten, with these scale exponents
-abbrev pub pair_power : List ℤ → ℕ → ℕ → ℤ
-pair_power exponents i j = pos 18 -ℤ at exponents i -ℤ at exponents j
+abbrev pub pair_power : Content → List ℤ → ℕ → ℕ → ℤ
+pair_power Info exponents i j = pos 18 -ℤ at exponents i -ℤ at exponents j
+pair_power Cova exponents i j = pos 24 +ℤ at exponents i +ℤ at exponents j
+pair_power Corr exponents i j = pos 18
 
 abbrev pub row_power : List ℤ → ℕ → ℤ
 row_power exponents i = pos 18 -ℤ at exponents i
 
 -- the intervals of a table of n rows stand for the elements
-abbrev pub ShowsEntries : Decimal → List Cell → List ℕ → List ℤ → SymTable → Type 0
-ShowsEntries weight cells ranks exponents table = (i j : ℕ) → i < length exponents → j < length exponents → StandsFor (ranked_number weight cells ranks i j) (pair_power exponents i j) (entry_at table i j)
+abbrev pub ShowsEntries : Content → Decimal → List Cell → List ℕ → List ℤ → SymTable → Type 0
+ShowsEntries content weight cells ranks exponents table = (i j : ℕ) → i < length exponents → j < length exponents → StandsFor (ranked_number weight cells ranks i j) (pair_power content exponents i j) (entry_at table i j)
 
 -- ---- by name
 -- the table of the elements for these names, in intervals that stand for them
-pub record IsShownTable (rows : List Row) (cells : List Cell) (weight : Decimal) (scales : ScaleMap) (names : List PlainId) (table : SymTable) : Type 0 where
+pub record IsShownTable (content : Content) (rows : List Row) (cells : List Cell) (weight : Decimal) (scales : ScaleMap) (names : List PlainId) (table : SymTable) : Type 0 where
   pub size : table.size ≡ length names
   pub lower : length table.entries ≡ before table.size
   pub entries : (i j : ℕ) (one other : PlainId) → slice_get names i ≡ Some one → slice_get names j ≡ Some other
-      → StandsFor (weighted_element rows cells weight one other) (entry_power scales one other) (entry_at table i j)
+      → StandsFor (weighted_element rows cells weight one other) (element_power content scales one other) (entry_at table i j)
 
 -- the right side for these names, in intervals that stand for its values
 pub record IsShownColumn (rows : List Row) (weight : Decimal) (scales : ScaleMap) (names : List PlainId) (right : List Interval) : Type 0 where

@@ -13,6 +13,9 @@ pub enum RecoverFault {
     /// A row has this name, and there is none of it in the block that must have one: the first such row.
     #[error("no row of this name")]
     Unmatched { id: ParamId },
+    /// Correlations would be used, which is not built yet.
+    #[error("a matrix that is not built")]
+    Unbuilt,
     /// There is no row.
     #[error("no row")]
     Empty,
@@ -20,6 +23,18 @@ pub enum RecoverFault {
     /// side names its row twice.
     #[error("a number is too great")]
     Range { row: ParamId, col: ParamId },
+    /// A table of covariances has no factor: its column of this name has none.
+    #[error("no pivot")]
+    Pivot { id: ParamId },
+    /// The column of this name of the approximate inverse of covariances passes its bounds at each scale.
+    #[error("a column of the inverse passes its bounds")]
+    Condition { id: ParamId },
+    /// In the first column of the inverse that has one, the first error past its bound, in the row of this name.
+    #[error("the error of a row is {size}")]
+    Residual { id: ParamId, size: u128 },
+    /// The first of the greatest defects of the inverse of covariances, in parts of 2^30, is a whole or more, in the row of this name.
+    #[error("the defect of a row is {parts}")]
+    Defect { id: ParamId, parts: u64 },
 }
 
 /// Why normal equations are not answered.

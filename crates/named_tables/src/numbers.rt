@@ -5,10 +5,11 @@ ghost use Rattle.whole_numbers.specs.Lists.{at};
 ghost use Rattle.decimal_e.specs.Decimals.{product};
 ghost use Rattle.decimal_e.specs.Scales.{decimal_interval};
 ghost use Rattle.param_ids.specs.Tables.{IsScale};
-ghost use Rattle.named_tables.specs.Parts.{IsKept, StandsFor};
+ghost use Rattle.named_tables.specs.Parts.{IsKept, StandsFor, pair_power};
 
 use decimal_e::{Dec, interval_at};
 use interval_word::Iv;
+use snx_matrices::Content;
 
 /// A number past every bound.
 const FAR: i128 = 100_000_000_000_000_000_000_000_000_000_000_000;
@@ -58,14 +59,20 @@ pub fn row_scale(exponents: &[i32], row: usize) -> i32
     18 - exponent_at(exponents, row)
 }
 
-/// The power of ten of a row and a column.
-pub fn pair_scale(exponents: &[i32], row: usize, col: usize) -> i32
+/// The power of ten of a row and a column: of an information matrix 18 less both scale exponents, of covariances 24 and both, of
+/// correlations 18.
+pub fn pair_scale(content: Content, exponents: &[i32], row: usize, col: usize) -> i32
     requires row { row < length exponents.now }
     requires col { col < length exponents.now }
     requires scales { All IsScale exponents.now }
-    ensures value { result ≡ pos 18 -ℤ at exponents.now row -ℤ at exponents.now col }
+    ensures value { result ≡ pair_power content exponents.now row col }
     ensures low { pos 6 ≤ℤ result }
-    ensures high { result ≤ℤ pos 26 }
+    ensures high { result ≤ℤ pos 36 }
 {
-    row_scale(exponents, row) - exponent_at(exponents, col)
+    let (one, other) = (exponent_at(exponents, row), exponent_at(exponents, col));
+    match content {
+        Content::Info => 18 - one - other,
+        Content::Cova => 24 + one + other,
+        Content::Corr => 18,
+    }
 }

@@ -1,12 +1,12 @@
 -- Constrained rows without an estimate.
-use Rattle.std.proofs.Common.{◌≡◌, ◌≤◌, ◌<◌, ◌∙◌, ◌&&◌, ◌||◌, ◌==◌, inl, inr, ℕ, Bool, true, false, List, Option, Some, None, Ok, All, Contains, length, take, get_or, slice_get, IfSome, cond, int_lt, ℤ, pos, negsuc, ◌<ℤ◌, is_some, eq-eqb, refl, sym, ap, subst, arith}
+use Rattle.std.proofs.Common.{◌≡◌, ◌≤◌, ◌<◌, ◌+◌, ◌∙◌, ◌&&◌, ◌||◌, ◌==◌, inl, inr, ℕ, Bool, true, false, List, [], ◌∷◌, Option, Some, None, Ok, All, Contains, length, take, get_or, slice_get, IfSome, cond, int_lt, ℤ, pos, negsuc, ◌<ℤ◌, is_some, eq-eqb, refl, sym, ap, subst, arith}
 use Rattle.std.specs.List.{find, list_any, position_or_len}
 use Rattle.std.specs.Option.{option_and_then}
 use Rattle.std.proofs.Math.Decide.{dec_lt}
 use Rattle.std.proofs.lemmas.Int.{ints}
 use borrow.Author.Tests.{ltb-true}
 use Rattle.std.proofs.lemmas.Bool.{false≢true}
-use Rattle.std.proofs.lemmas.List.{take_all}
+use Rattle.std.proofs.lemmas.List.{take_all, get_or_default}
 use Rattle.std.proofs.lemmas.List.Folds.{list_any_at, find_at}
 use Rattle.std.proofs.lemmas.List.Sums.{position_or_len_is, passes_at_first, fails_before_first}
 use Rattle.std.proofs.lemmas.Option.{none-some, same_Some, slice_get_within, slice_get-get_or, get_or_from_slice_get}
@@ -18,12 +18,15 @@ use Rattle.snx_rows.specs.Blocks.{AreDistinct}
 use Rattle.snx_rows.specs.Named.{is_row_of, row_of, place_of}
 use Rattle.snx_rows.specs.declared.rows.Row.{Row}
 use Rattle.snx_matrices.specs.declared.elements.Cell.{Cell}
+use Rattle.snx_matrices.specs.declared.elements.Content.{Content}
+use Rattle.named_tables.specs.Deviations.{positive, sigma_in, sigma_of, sigma_at}
 use Rattle.named_tables.specs.Naming.{lacks_row, matched_in, AreNamesOf}
 use Rattle.named_tables.specs.Tables.{HasNames}
 use Rattle.named_tables.proofs.NameLaws.{lacks, apart_names}
 use Rattle.neq_stack.proofs.NameLaws.{place_cases, contained}
-use Rattle.recover_solution.specs.Solutions.{Matrix, Sigmas, PlainSolution, touches, is_constrained, positive, sigma_in, sigma_of, sigma_at}
-use Rattle.recover_solution.specs.Recovery.{estimated}
+use Rattle.recover_solution.specs.Solutions.{Matrix, Sigmas, PlainSolution, touches, is_touched, touched_names, is_constrained}
+use Rattle.recover_solution.specs.Recovery.{estimated, AreDeviationsNamed}
+use Rattle.recover_solution.proofs.TouchedLaws.{kept_name}
 
 -- a row that is constrained and has no estimate
 abbrev pub lacking : PlainSolution → Row → Bool
@@ -42,6 +45,28 @@ own_place rows k row apart is =
 
 pub place_item : (rows : List Row) (k : ℕ) (row : Row) → AreDistinct (λ row. row.id) rows → k < length rows → row ≡ get_or rows k row → place_of rows row.id ≡ k
 place_item rows k row apart l is = own_place rows k row apart (slice_get-get_or rows k row l ∙ ap (λ (r : Row). Some r) (sym is))
+
+-- what a loop that looks for the row of a name shows
+abbrev pub NoneBefore : List Row → PlainId → ℕ → Type 0
+NoneBefore rows id k = (j : ℕ) (d : Row) → j < k → is_row_of id (get_or rows j d) ≡ false
+
+pub none_before : (rows : List Row) (id : PlainId) (k : ℕ) (row : Row) → k < length rows → row ≡ get_or rows k row → NoneBefore rows id k → is_row_of id row ≡ false → NoneBefore rows id (k + 1)
+none_before rows id k row l is before fails j d lj =
+    elim (dec_lt j k) [
+      | yes low ↦ before j d low
+      | no high ↦
+          let same : j ≡ k = omega arith in
+          ap (λ n. is_row_of id (get_or rows n d)) same ∙ ap (is_row_of id) (get_or_default rows k d row l ∙ sym is) ∙ fails
+    ]
+
+pub first_place : (rows : List Row) (id : PlainId) (k : ℕ) (row : Row) → k < length rows → row ≡ get_or rows k row → NoneBefore rows id k → is_row_of id row ≡ true → k ≡ place_of rows id
+first_place rows id k row l is before passes =
+    sym (position_or_len_is (is_row_of id) rows k row (omega arith) (λ j lj. before j row lj) (λ lk. ap (is_row_of id) (sym is) ∙ passes))
+
+pub no_place : (rows : List Row) (id : PlainId) → NoneBefore rows id (length rows) → length rows ≡ place_of rows id
+no_place [] id before = refl
+no_place (row ∷ rows) id before =
+    sym (position_or_len_is (is_row_of id) (row ∷ rows) (length (row ∷ rows)) row (omega arith) (λ j lj. before j row lj) (λ lk. absurd (omega arith)))
 
 -- ---- the first that lacks its estimate
 pub none_and : (a b r : Bool) → r ≡ b → r ≡ false → false ≡ (a && b)
@@ -149,14 +174,17 @@ module _ (solution : PlainSolution) (names : List PlainId) (named : AreNamesOf s
         | inr h ↦ absurd (false≢true (sym has ∙ lacks solution.estimates names row named.0 h.0))
       ]
 
-  -- the rows that an element of the constraints joins have estimates
-  module _ (cells : List Cell) (matrix : solution.constraint ≡ Matrix cells) (apart : AreDistinct (λ row. row.id) solution.apriori) where
-    touched : (place : ℕ) (row : Row) (j : ℕ) (d : Cell) → slice_get solution.apriori place ≡ Some row → j < length cells → touches place (get_or cells j d) ≡ true → Contains names row.id
-    touched place row j d is l here =
-        estimate_of place row is
-        (ap (λ c. is_constrained c solution.apriori row) matrix ∙ ap (λ p. list_any (touches p) cells) (own_place solution.apriori place row apart is) ∙ list_any_at (touches place) cells j d l here)
+  -- the names of the rows that an element of the constraints joins are among those that are touched
+  module _ (content : Content) (cells : List Cell) (matrix : solution.constraint ≡ Matrix content cells) (apart : AreDistinct (λ row. row.id) solution.apriori) where
+    row_touched : (place : ℕ) (row : Row) (j : ℕ) (d : Cell) → slice_get solution.apriori place ≡ Some row → j < length cells → touches place (get_or cells j d) ≡ true → is_touched solution.apriori cells row.id ≡ true
+    row_touched place row j d is l here = ap (λ p. list_any (touches p) cells) (own_place solution.apriori place row apart is) ∙ list_any_at (touches place) cells j d l here
 
-    pub cells_named : All (HasNames names solution.apriori) cells
+    touched : (place : ℕ) (row : Row) (j : ℕ) (d : Cell) → slice_get solution.apriori place ≡ Some row → j < length cells → touches place (get_or cells j d) ≡ true → Contains (touched_names solution.apriori cells names) row.id
+    touched place row j d is l here =
+        let passes = row_touched place row j d is l here in
+        kept_name (is_touched solution.apriori cells) names row.id passes (estimate_of place row is (ap (λ c. is_constrained c solution.apriori row) matrix ∙ passes))
+
+    pub cells_named : All (HasNames (touched_names solution.apriori cells names) solution.apriori) cells
     cells_named j d l = record {
       row = λ row is. touched (get_or cells j d).row row j d is l (touches_row (get_or cells j d));
       col = λ row is. touched (get_or cells j d).col row j d is l (touches_col (get_or cells j d));
@@ -184,3 +212,6 @@ module _ (solution : PlainSolution) (names : List PlainId) (named : AreNamesOf s
   sigma_named id s sigmas is =
       let there = sigma_row solution.apriori id s is in
       subst (Contains names) there.named (estimate_of there.place there.row there.there (ap (λ c. is_constrained c solution.apriori there.row) sigmas ∙ ap is_some there.is))
+
+  pub deviations_named : solution.constraint ≡ Sigmas → AreDeviationsNamed solution.apriori names
+  deviations_named sigmas id s is = sigma_named id s sigmas is

@@ -1,4 +1,4 @@
--- A solution has an exact system, and with it each multiple.
+-- There are constraints of standard deviations, and systems that are left without constraints; and with each its multiples.
 use Rattle.std.proofs.Common.{◌≡◌, ◌<◌, ◌*◌, ◌∙◌, ◌∷◌, ℕ, ℤ, pos, ◌+ℤ◌, ◌*ℤ◌, Bool, true, false, cond, List, [], Option, Some, None, All, unsigned_abs, refl, sym, ap, arith}
 use Rattle.std.specs.List.{find}
 use Rattle.std.specs.Option.{option_and_then}
@@ -6,7 +6,6 @@ use Rattle.std.proofs.Math.IntN.{◌-ℤ◌, zero-*ℤ}
 use Rattle.std.proofs.Math.Nat.{mul-pos, mul_comm}
 use Rattle.std.proofs.lemmas.Int.{ints}
 use Rattle.std.proofs.lemmas.List.Elements.{All-nil, All-cons}
-use Rattle.stated_order.specs.Steps.{HasOne}
 use Rattle.whole_numbers.specs.Scaling.{ten_above}
 use Rattle.whole_numbers.proofs.Ring.{*ℤ_assoc, *ℤ_left_comm, *ℤ_comm, *ℤ-+ℤ}
 use Rattle.decimal_e.specs.Decimals.{Decimal}
@@ -17,21 +16,11 @@ use Rattle.param_ids.specs.Order.{is_same_id}
 use Rattle.snx_rows.specs.Named.{is_row_of, value_of}
 use Rattle.snx_rows.specs.declared.rows.Row.{Row}
 use Rattle.neq_stack.specs.Systems.{NamedSystem, IsSumOf, multiple}
-use Rattle.neq_stack.proofs.MeaningLaws.{means_multiple}
 use Rattle.apriori_shift.proofs.MoveLaws.{systems_move, multiples_move}
-use Rattle.named_tables.specs.Naming.{AreNamesOf}
-use Rattle.named_tables.specs.Weighted.{weighted_element}
-use Rattle.named_tables.proofs.MeaningLaws.{element_means}
-use Rattle.recover_solution.specs.Solutions.{PlainConstraint, Free, Matrix, Sigmas, PlainSolution, sigma_in, sigma_of, sigma_at}
-use Rattle.recover_solution.specs.Exact.{IsInformation, IsOverSigma, IsConstraintElement, AreConstraints, IsExact, MultiplesAreExact}
+use Rattle.named_tables.specs.Deviations.{sigma_in, sigma_of, sigma_at}
+use Rattle.recover_solution.specs.Exact.{IsOverSigma, SigmasConstrain, MultiplesConstrain, SystemsAreFreed, MultiplesAreFreed}
 use Rattle.recover_solution.proofs.EstimateLaws.{positive_in}
 use Rattle.recover_solution.proofs.SigmaLaws.{numerator_square, gathered}
-
--- ---- the information matrix
-information : (solution : PlainSolution) (weight : Decimal) → HasOne (IsInformation solution weight)
-information solution weight =
-    let means = element_means solution.estimates solution.cells weight in
-    (record { q = means.0; a = λ one other. (means.2 one other).0; c = λ id. pos 0 }, record { some = means.1; matrix = λ one other. (means.2 one other).1; right = λ id. refl })
 
 -- ---- products of squares
 -- the square of a standard deviation's numerator, and 1 where there is none
@@ -101,19 +90,11 @@ sigma_element apriori weight one other = by_test (is_same_id one other)
     by_test true = (sigma_part weight (sigma_of apriori one) (other_squares apriori one), over_sigma weight (sigma_of apriori one) (other_squares apriori one) (squares apriori) (parted apriori one))
     by_test false = (pos 0, refl)
 
--- elements of constraints over one denominator
-abbrev HaveElements : PlainConstraint → List Row → Decimal → Type 0
-HaveElements c apriori weight = (q : ℕ) × (0 < q) × ((one other : PlainId) → (x : ℤ) × IsConstraintElement c apriori weight one other x q)
-
-constraint_elements : (c : PlainConstraint) (apriori : List Row) (weight : Decimal) → HaveElements c apriori weight
-constraint_elements Free apriori weight = (1, omega arith, λ one other. (pos 0, refl))
-constraint_elements (Matrix cells) apriori weight = element_means apriori cells weight
-constraint_elements Sigmas apriori weight = (denominator weight * squares apriori, mul-pos (ten_below_some weight.exp) (squares_some apriori), sigma_element apriori weight)
-
-constraints : (solution : PlainSolution) (weight : Decimal) → HasOne (AreConstraints solution weight)
-constraints solution weight =
-    let all = constraint_elements solution.constraint solution.apriori weight in
-    (record { q = all.0; a = λ one other. (all.2 one other).0; c = λ id. pos 0 }, record { some = all.1; matrix = λ one other. (all.2 one other).1; right = λ id. refl })
+pub sigmas_constrain : SigmasConstrain
+sigmas_constrain apriori weight = (
+  record { q = denominator weight * squares apriori; a = λ one other. (sigma_element apriori weight one other).0; c = λ id. pos 0 },
+  record { some = mul-pos (ten_below_some weight.exp) (squares_some apriori); matrix = λ one other. (sigma_element apriori weight one other).1; right = λ id. refl },
+)
 
 -- ---- multiples
 over_multiple : (weight : Decimal) (dev : Option Decimal) (x : ℤ) (q k : ℕ) → IsOverSigma weight dev x q → IsOverSigma weight dev (pos k *ℤ x) (k * q)
@@ -125,15 +106,10 @@ over_multiple weight (Some s) x q k is =
     ap (λ z. z *ℤ square) (*ℤ_assoc (pos k) x (pos (denominator weight))) ∙ *ℤ_assoc (pos k) (x *ℤ pos (denominator weight)) square ∙ ap (λ z. pos k *ℤ z) is
     ∙ *ℤ_left_comm (pos k) (numerator weight) (pos (q * below)) ∙ ap (λ n. numerator weight *ℤ pos n) turned
 
-element_multiple : (c : PlainConstraint) (apriori : List Row) (weight : Decimal) (one other : PlainId) (x : ℤ) (q k : ℕ) → IsConstraintElement c apriori weight one other x q → IsConstraintElement c apriori weight one other (pos k *ℤ x) (k * q)
-element_multiple Free apriori weight one other x q k is = ap (λ z. pos k *ℤ z) is ∙ *ℤ_comm (pos k) (pos 0) ∙ zero-*ℤ (pos k)
-element_multiple (Matrix cells) apriori weight one other x q k is = means_multiple (weighted_element apriori cells weight one other) x q k is
-element_multiple Sigmas apriori weight one other x q k is = over_multiple weight (sigma_at apriori one other) x q k is
-
-constraints_multiple : (solution : PlainSolution) (weight : Decimal) (K : NamedSystem) (k : ℕ) → 0 < k → AreConstraints solution weight K → AreConstraints solution weight (multiple k K)
-constraints_multiple solution weight K k some is = record {
+pub multiples_constrain : MultiplesConstrain
+multiples_constrain apriori weight K k some is = record {
   some = mul-pos some is.some;
-  matrix = λ one other. element_multiple solution.constraint solution.apriori weight one other (K.a one other) K.q k (is.matrix one other);
+  matrix = λ one other. over_multiple weight (sigma_at apriori one other) (K.a one other) K.q k (is.matrix one other);
   right = λ id. ap (λ z. pos k *ℤ z) (is.right id) ∙ *ℤ_comm (pos k) (pos 0) ∙ zero-*ℤ (pos k);
 }
 
@@ -144,21 +120,15 @@ two_multiple k x y z is =
     let whole = *ℤ-+ℤ (pos k) x y in
     ap (λ u. pos k *ℤ u) (is ∙ plain) ∙ whole ∙ omega (arith, ints)
 
-pub multiples_are_exact : MultiplesAreExact
-multiples_are_exact solution weight S k some exact = record {
-  names = exact.names;
-  named = exact.named;
-  E = exact.E;
-  information = exact.information;
-  moved = multiple k exact.moved;
-  moves = multiples_move exact.names (value_of solution.estimates) (value_of solution.apriori) exact.E exact.moved k some exact.moves;
-  K = multiple k exact.K;
-  constraints = constraints_multiple solution weight exact.K k some exact.constraints;
+pub multiples_are_freed : MultiplesAreFreed
+multiples_are_freed solution names E K S k some freed = record {
+  moved = multiple k freed.moved;
+  moves = multiples_move names (value_of solution.estimates) (value_of solution.apriori) E freed.moved k some freed.moves;
   sum = record {
-    some = mul-pos some exact.sum.some;
-    denominators = one_denominator (k * exact.moved.q) (multiple k S) (multiple k exact.K) (ap (λ n. k * n) (exact.sum.denominators 0 S (omega arith))) (ap (λ n. k * n) (exact.sum.denominators 1 exact.K (omega arith)));
-    matrix = λ one other. two_multiple k (S.a one other) (exact.K.a one other) (exact.moved.a one other) (exact.sum.matrix one other);
-    right = λ id. two_multiple k (S.c id) (exact.K.c id) (exact.moved.c id) (exact.sum.right id);
+    some = mul-pos some freed.sum.some;
+    denominators = one_denominator (k * freed.moved.q) (multiple k S) (multiple k K) (ap (λ n. k * n) (freed.sum.denominators 0 S (omega arith))) (ap (λ n. k * n) (freed.sum.denominators 1 K (omega arith)));
+    matrix = λ one other. two_multiple k (S.a one other) (K.a one other) (freed.moved.a one other) (freed.sum.matrix one other);
+    right = λ id. two_multiple k (S.c id) (K.c id) (freed.moved.c id) (freed.sum.right id);
   };
 }
   where
@@ -182,24 +152,13 @@ left_sum moved K some same = record {
     back : (x y : ℤ) → x ≡ (x -ℤ y) +ℤ (y +ℤ pos 0)
     back x y = omega (arith, ints)
 
-pub exact_exists : (solution : PlainSolution) (weight : Decimal) (names : List PlainId) → AreNamesOf solution.estimates names → HasOne (IsExact solution weight)
-exact_exists solution weight names named =
-    let E = information solution weight in
-    let T = systems_move names (value_of solution.estimates) (value_of solution.apriori) E.0 E.1.some in
-    let K = constraints solution weight in
-    let moved = multiple K.0.q T.0 in
-    let taken = multiple T.0.q K.0 in
-    let moves = multiples_move names (value_of solution.estimates) (value_of solution.apriori) E.0 T.0 K.0.q K.1.some T.1 in (
-      left_of moved taken,
-      record {
-        names = names;
-        named = named;
-        E = E.0;
-        information = E.1;
-        moved = moved;
-        moves = moves;
-        K = taken;
-        constraints = constraints_multiple solution weight K.0 T.0.q T.1.some K.1;
-        sum = left_sum moved taken moves.some (mul_comm T.0.q K.0.q);
-      },
+pub systems_are_freed : SystemsAreFreed
+systems_are_freed solution names E K E_some K_some =
+    let T = systems_move names (value_of solution.estimates) (value_of solution.apriori) E E_some in
+    let moved = multiple K.q T.0 in
+    let taken = multiple T.0.q K in
+    let moves = multiples_move names (value_of solution.estimates) (value_of solution.apriori) E T.0 K.q K_some T.1 in (
+      T.0.q,
+      T.1.some,
+      (left_of moved taken, record { moved = moved; moves = moves; sum = left_sum moved taken moves.some (mul_comm T.0.q K.q) }),
     )

@@ -1,9 +1,10 @@
+pub mod TouchedLaws
 pub mod EstimateLaws
-pub mod MovingLaws
 pub mod SigmaLaws
-pub mod RemovedLaws
+pub mod MovingLaws
+pub mod LessLaws
+pub mod StepLaws
+pub mod SigmaTables
 pub mod ExactLaws
 pub mod ExistLaws
 pub mod Alone
-pub mod LessLaws
-pub mod RecoverLaws

@@ -33,8 +33,7 @@ use Rattle.named_tables.specs.declared.faults.RecoverFault.{RecoverFault}
 use Rattle.named_tables.specs.declared.faults.RecoverError.{RecoverError}
 use Rattle.named_tables.specs.declared.faults.RecoverError.TheVariants.{Memory, Fault}
 use Rattle.recover_solution.specs.Solutions.{PlainSolution}
-use Rattle.recover_solution.specs.Recovery.{at_estimates, range_at}
-use Rattle.recover_solution.specs.Parts.{IsModestTable}
+use Rattle.recover_solution.specs.Recovery.{IsModestTable, at_estimates, range_at}
 
 -- ---- what a shift keeps
 pub record Keeps (values : List Decimal) (neq after : PlainNeq) : Type 0 where

@@ -18,9 +18,9 @@ use Rattle.inverse_squares.specs.Quotients.{IsOverSquare, square, power_left}
 use Rattle.inverse_squares.proofs.Alone.{one_over_square}
 use Rattle.inverse_squares.proofs.HoldLaws.{over_square_holds}
 use Rattle.apriori_shift.proofs.FractionLaws.{zero_holds}
+use Rattle.named_tables.specs.Weighted.{IsWeight, WeightFits, weighted_interval}
 use Rattle.recover_solution.specs.Exact.{IsOverSigma}
-use Rattle.recover_solution.specs.Recovery.{WeightFits, weighted_interval, SigmaFits, IsSigmaInterval}
-use Rattle.recover_solution.specs.Views.{IsWeight}
+use Rattle.recover_solution.specs.Recovery.{SigmaFits, IsSigmaInterval}
 use Rattle.recover_solution.specs.Parts.{IsFittingSigma}
 
 -- ---- sizes

@@ -1,16 +1,16 @@
 -- For private functions alone: intervals of standard deviations, and tables less tables.
-use Rattle.std.specs.Prelude.{◌≡◌, ◌≢◌, ◌≤◌, ◌<◌, ◌^◌, ℕ, ℤ, List, Option, Some, Result, Ok, Err, length, slice_get, slice_index_or}
+use Rattle.std.specs.Prelude.{◌≡◌, ◌≢◌, ◌<◌, ℕ, ℤ, List, Option, Some, Result, Ok, Err, length, slice_get, slice_index_or}
 use Rattle.stated_order.specs.First.{IsFirstFailure}
-use Rattle.whole_numbers.specs.Intervals.{Interval, interval_sub, size}
+use Rattle.whole_numbers.specs.Intervals.{Interval, interval_sub}
 use Rattle.decimal_e.specs.Decimals.{Decimal}
 use Rattle.sym_blocks.specs.Tables.{SymTable, entry_at, before, zero_interval}
 use Rattle.param_ids.specs.Plain.{PlainId}
 use Rattle.param_ids.specs.Tables.{ScaleMap}
 use Rattle.snx_rows.specs.declared.rows.Row.{Row}
+use Rattle.named_tables.specs.Deviations.{sigma_of}
 use Rattle.named_tables.specs.Weighted.{entry_power}
 use Rattle.named_tables.specs.declared.faults.RecoverFault.{RecoverFault}
 use Rattle.named_tables.specs.declared.faults.RecoverFault.TheVariants.{Range}
-use Rattle.recover_solution.specs.Solutions.{sigma_of}
 use Rattle.recover_solution.specs.Recovery.{IsSigmaInterval, SigmaFits}
 
 -- the interval of a name's standard deviation, which fits
@@ -47,7 +47,3 @@ AreSigmas apriori weight scales names (Err fault) = IsFirstUnfitSigma apriori we
 -- the interval of a table at a place is that of another less the one that is removed
 abbrev pub IsLessAt : SymTable → SymTable → SymTable → ℕ → ℕ → Type 0
 IsLessAt removed old new i j = entry_at new i j ≡ interval_sub (entry_at old i j) (entry_at removed i j)
-
--- no interval of a table passes 10^34 in size
-abbrev pub IsModestTable : SymTable → Type 0
-IsModestTable table = (i j : ℕ) → i < table.size → j < table.size → size (entry_at table i j) ≤ 10 ^ 34

@@ -1,12 +1,12 @@
--- From a solution to normal equations in intervals by name, or the first cause for which there are none.
-use Rattle.std.specs.Prelude.{◌≡◌, ◌≤◌, ◌<◌, ◌^◌, ◌&&◌, ℕ, ℤ, pos, List, length, map, replicate, Option, Some, None, Result, Ok, Err, slice_get}
+-- The steps from a solution to normal equations in intervals by name: the names of its parameters, the table of its standard deviations, and
+-- the normal equations of a table, brought to the a priori values and without the table of the constraints. Each is the step's result, or
+-- the first cause for which there is none.
+use Rattle.std.specs.Prelude.{◌≡◌, ◌≤◌, ◌<◌, ◌^◌, ◌&&◌, ℕ, ℤ, pos, List, length, map, replicate, Option, Some, None, Result, Ok, Err, Contains, slice_get}
 use Rattle.std.specs.List.{find}
 use Rattle.stated_order.specs.First.{HoldsLower}
 use Rattle.stated_order.specs.Steps.{IsOne, Then, Renamed}
-use Rattle.whole_numbers.specs.Intervals.{Interval, interval_scale, interval_sub, size}
-use Rattle.whole_numbers.specs.Scaling.{interval_scale10}
+use Rattle.whole_numbers.specs.Intervals.{Interval, interval_sub, size}
 use Rattle.decimal_e.specs.Decimals.{Decimal}
-use Rattle.decimal_e.specs.Scales.{decimal_interval}
 use Rattle.inverse_squares.specs.Quotients.{IsOverSquare}
 use Rattle.sym_blocks.specs.Tables.{SymTable, entry_at, before, zero_interval}
 use Rattle.param_ids.specs.Plain.{PlainId}
@@ -17,64 +17,67 @@ use Rattle.neq_stack.specs.Neqs.{PlainNeq}
 use Rattle.neq_stack.specs.Systems.{name_at}
 use Rattle.difference_products.specs.Products.{Place}
 use Rattle.apriori_shift.specs.Shifts.{IsShift}
+use Rattle.named_tables.specs.Deviations.{sigma_of, sigma_at}
 use Rattle.named_tables.specs.Naming.{lacks_row, matched_in, matched, filled, AreNamesOf}
-use Rattle.named_tables.specs.Weighted.{weighted_element, entry_power, scale_of, Fits}
-use Rattle.named_tables.specs.Tables.{IsUnfitEntry, IsTable}
+use Rattle.named_tables.specs.Weighted.{entry_power, scale_of, weighted_interval, WeightFits}
+use Rattle.named_tables.specs.Tables.{IsUnfitEntry}
 use Rattle.named_tables.specs.declared.faults.RecoverFault.{RecoverFault}
 use Rattle.named_tables.specs.declared.faults.RecoverFault.TheVariants.{Range}
-use Rattle.recover_solution.specs.Solutions.{PlainConstraint, Free, Matrix, Sigmas, PlainSolution, sigma_at, is_constrained}
+use Rattle.recover_solution.specs.Solutions.{PlainSolution, is_constrained}
 
 -- ---- names
 -- each constrained a priori row has an estimate, or the first that has none
 abbrev pub estimated : PlainSolution → Result (Unit {0}) RecoverFault
 estimated solution = matched_in (find (λ row. is_constrained solution.constraint solution.apriori row && lacks_row solution.estimates row) solution.apriori)
 
--- ---- the intervals of constraints
--- an interval times the weight: times its digits, and then times its power of ten, rounded outward
-abbrev pub weighted_interval : Decimal → Interval → Interval
-weighted_interval weight v = interval_scale10 (interval_scale weight.mant v) weight.exp
+-- the names of the estimates
+abbrev pub AreEstimated : PlainSolution → Result (List PlainId) RecoverFault → Type 0
+AreEstimated solution (Ok names) = AreNamesOf solution.estimates names
+AreEstimated solution (Err fault) = ⊥
 
--- it is at most 10^37 in size before the power of ten, and at most 10^34 after it
-pub record WeightFits (weight : Decimal) (v : Interval) : Type 0 where
-  pub digits : size (interval_scale weight.mant v) ≤ 10 ^ 37
-  pub modest : size (weighted_interval weight v) ≤ 10 ^ 34
+-- the names of a solution's parameters, or the first cause for which it has none: an estimate has no a priori value, a constrained a
+-- priori row has no estimate, there is no estimate
+abbrev pub AreParameters : PlainSolution → Result (List PlainId) RecoverFault → Type 0
+AreParameters solution =
+    Then (λ r. r ≡ matched solution.apriori solution.estimates) (λ all_matched.
+    Then (λ r. r ≡ estimated solution) (λ all_estimated.
+    Then (λ r. r ≡ filled solution.estimates) (λ some.
+    AreEstimated solution)))
+
+-- ---- standard deviations
+-- each name that has a positive one is among these
+abbrev pub AreDeviationsNamed : List Row → List PlainId → Type 0
+AreDeviationsNamed apriori names = (id : PlainId) (s : Decimal) → sigma_of apriori id ≡ Some s → Contains names id
 
 -- the interval of the weight over the square of a standard deviation, times 10^k; zero where there is none
 abbrev pub IsSigmaInterval : Decimal → Option Decimal → ℤ → Interval → Type 0
 IsSigmaInterval weight None k w = w ≡ zero_interval
 IsSigmaInterval weight (Some s) k w = (v : Interval) × IsOverSquare (pos 1) s k v × (w ≡ weighted_interval weight v)
 
+-- it fits
 abbrev pub SigmaFits : Decimal → Option Decimal → ℤ → Type 0
 SigmaFits weight None k = Unit {0}
 SigmaFits weight (Some s) k = (v : Interval) × IsOverSquare (pos 1) s k v × WeightFits weight v
 
--- the interval of the constraints for two names
-abbrev pub IsConstraintInterval : PlainConstraint → List Row → Decimal → ScaleMap → PlainId → PlainId → Interval → Type 0
-IsConstraintInterval Free apriori weight scales one other w = w ≡ zero_interval
-IsConstraintInterval (Matrix cells) apriori weight scales one other w = w ≡ decimal_interval (weighted_element apriori cells weight one other) (entry_power scales one other)
-IsConstraintInterval Sigmas apriori weight scales one other w = IsSigmaInterval weight (sigma_at apriori one other) (entry_power scales one other) w
+abbrev pub EntrySigmaFits : List Row → Decimal → ScaleMap → List PlainId → ℕ → ℕ → Type 0
+EntrySigmaFits apriori weight scales names i j = SigmaFits weight (sigma_at apriori (name_at names i) (name_at names j)) (entry_power scales (name_at names i) (name_at names j))
 
--- it fits
-abbrev pub ConstraintFits : PlainConstraint → List Row → Decimal → ScaleMap → PlainId → PlainId → Type 0
-ConstraintFits Free apriori weight scales one other = Unit {0}
-ConstraintFits (Matrix cells) apriori weight scales one other = Fits (weighted_element apriori cells weight one other) (entry_power scales one other)
-ConstraintFits Sigmas apriori weight scales one other = SigmaFits weight (sigma_at apriori one other) (entry_power scales one other)
-
-abbrev pub ConstraintFitsAt : PlainConstraint → List Row → Decimal → ScaleMap → List PlainId → ℕ → ℕ → Type 0
-ConstraintFitsAt constraint apriori weight scales names i j = ConstraintFits constraint apriori weight scales (name_at names i) (name_at names j)
-
--- the table of the constraints for these names
-pub record IsRemovedTable (constraint : PlainConstraint) (apriori : List Row) (weight : Decimal) (scales : ScaleMap) (names : List PlainId) (table : SymTable) : Type 0 where
+-- the table of the standard deviations for these names
+pub record IsSigmaTableOf (apriori : List Row) (weight : Decimal) (scales : ScaleMap) (names : List PlainId) (table : SymTable) : Type 0 where
   pub size : table.size ≡ length names
   pub lower : length table.entries ≡ before table.size
-  pub entries : (i j : ℕ) (one other : PlainId) → slice_get names i ≡ Some one → slice_get names j ≡ Some other → IsConstraintInterval constraint apriori weight scales one other (entry_at table i j)
+  pub entries : (i j : ℕ) (one other : PlainId) → slice_get names i ≡ Some one → slice_get names j ≡ Some other → IsSigmaInterval weight (sigma_at apriori one other) (entry_power scales one other) (entry_at table i j)
 
 -- the table where all intervals fit, or else the names of the first that does not
-abbrev pub IsRemoved : PlainSolution → Decimal → ScaleMap → List PlainId → Result SymTable RecoverFault → Type 0
-IsRemoved solution weight scales names (Ok table) =
-    IsRemovedTable solution.constraint solution.apriori weight scales names table × HoldsLower (length names) (ConstraintFitsAt solution.constraint solution.apriori weight scales names)
-IsRemoved solution weight scales names (Err (Range row col)) = IsUnfitEntry names (ConstraintFitsAt solution.constraint solution.apriori weight scales names) row col
-IsRemoved solution weight scales names (Err other) = ⊥
+abbrev pub IsSigmaTable : List Row → Decimal → ScaleMap → List PlainId → Result SymTable RecoverFault → Type 0
+IsSigmaTable apriori weight scales names (Ok table) = IsSigmaTableOf apriori weight scales names table × HoldsLower (length names) (EntrySigmaFits apriori weight scales names)
+IsSigmaTable apriori weight scales names (Err (Range row col)) = IsUnfitEntry names (EntrySigmaFits apriori weight scales names) row col
+IsSigmaTable apriori weight scales names (Err other) = ⊥
+
+-- ---- tables
+-- no interval of a table passes 10^34 in size
+abbrev pub IsModestTable : SymTable → Type 0
+IsModestTable table = (i j : ℕ) → i < table.size → j < table.size → size (entry_at table i j) ≤ 10 ^ 34
 
 -- ---- the right side
 -- the normal equations of this table at the estimates, where the right side is zero
@@ -113,26 +116,18 @@ abbrev pub AreWithout : SymTable → PlainNeq → Result PlainNeq RecoverFault �
 AreWithout removed neq (Ok after) = IsWithout removed neq after
 AreWithout removed neq (Err fault) = ⊥
 
--- ---- all steps
--- the normal equations of the names of the estimates in order: the table of the information matrix, that of the constraints, the right
--- side, and the first table less the second
-pub record IsNamed (solution : PlainSolution) (weight : Decimal) (scales : ScaleMap) (result : Result PlainNeq RecoverFault) : Type 0 where
-  pub names : List PlainId
-  pub named : AreNamesOf solution.estimates names
-  pub made : Then (IsTable solution.estimates solution.cells weight scales names) (λ table.
-      Then (IsRemoved solution weight scales names) (λ removed.
-      Then (IsMoved solution scales names table) (λ moved.
-      AreWithout removed moved))) result
+-- The normal equations of these names with this table, brought to the a priori values and less the table of the constraints, or the names
+-- of the first interval of the right side that does not fit.
+abbrev pub IsFreed : PlainSolution → ScaleMap → List PlainId → SymTable → SymTable → Result PlainNeq RecoverFault → Type 0
+IsFreed solution scales names table removed = Then (IsMoved solution scales names table) (AreWithout removed)
 
--- The normal equations of a solution with the weight of its file, or the first cause for which there are none: an estimate has no a priori
--- value, a constrained a priori row has no estimate, there is no estimate, an element does not fit.
-abbrev pub IsRecovered : PlainSolution → Decimal → ScaleMap → Result PlainNeq RecoverFault → Type 0
-IsRecovered solution weight scales =
-    Then (λ r. r ≡ matched solution.apriori solution.estimates) (λ all_matched.
-    Then (λ r. r ≡ estimated solution) (λ all_estimated.
-    Then (λ r. r ≡ filled solution.estimates) (λ some.
-    IsNamed solution weight scales)))
+-- ---- what is promised of them
+-- each step has one result at most, and a cause or a result but never both
+abbrev pub OneParameters : Type 0
+OneParameters = (solution : PlainSolution) → IsOne (AreParameters solution)
 
--- a solution has one recovery at most: normal equations, or a first cause, and never both
-abbrev pub OneRecovery : Type 0
-OneRecovery = (solution : PlainSolution) (weight : Decimal) (scales : ScaleMap) → IsOne (IsRecovered solution weight scales)
+abbrev pub OneSigmaTable : Type 0
+OneSigmaTable = (apriori : List Row) (weight : Decimal) (scales : ScaleMap) (names : List PlainId) → IsOne (IsSigmaTable apriori weight scales names)
+
+abbrev pub OneFreed : Type 0
+OneFreed = (solution : PlainSolution) (scales : ScaleMap) (names : List PlainId) (table removed : SymTable) → IsOne (IsFreed solution scales names table removed)

@@ -1,29 +1,28 @@
-//! The tables of constraints.
+//! The table of standard deviations.
 
 ghost use Rattle.std.specs.Prelude.{◌≡◌, ◌≤◌, ◌<◌, ◌⊎◌, ◌^◌, ℕ, pos, ◌≤ℤ◌, ◌<ℤ◌, All, IfOk, IfErr, IfSome, IfNone, SomeIff, Ok, Err, Some, length, unsigned_abs};
+ghost use Rattle.stated_order.specs.Steps.{HasOne};
 ghost use Rattle.whole_numbers.specs.Intervals.{interval_scale, size};
 ghost use Rattle.param_ids.specs.Order.{IsNames};
 ghost use Rattle.snx_rows.specs.Blocks.{HasShortDeviation};
-ghost use Rattle.snx_rows.specs.Named.{is_row_of};
-ghost use Rattle.named_tables.specs.Weighted.{entry_power};
+ghost use Rattle.neq_stack.specs.Systems.{NamedSystem};
+ghost use Rattle.named_tables.specs.Deviations.{sigma_of};
+ghost use Rattle.named_tables.specs.Tables.{LiesInTable};
+ghost use Rattle.named_tables.specs.Weighted.{IsWeight, WeightFits, entry_power, weighted_interval};
 ghost use Rattle.named_tables.specs.declared.faults.RecoverError.TheVariants.{Memory, Fault};
 ghost use Rattle.named_tables.specs.declared.faults.RecoverFault.{RecoverFault};
-ghost use Rattle.named_tables.specs.Naming.{AreNamesOf};
-ghost use Rattle.recover_solution.specs.Solutions.{sigma_of};
-ghost use Rattle.recover_solution.specs.Recovery.{WeightFits, weighted_interval, SigmaFits, IsRemoved, estimated};
-ghost use Rattle.recover_solution.specs.Views.{solution_view, IsRead, IsWeight};
-ghost use Rattle.recover_solution.specs.Parts.{IsFittingSigma, IsSigmaAt, IsFirstUnfitSigma, IsDiagonal, AreSigmas};
+ghost use Rattle.recover_solution.specs.Exact.{AreSigmaConstraints};
+ghost use Rattle.recover_solution.specs.Recovery.{AreDeviationsNamed, IsModestTable, IsSigmaTable, SigmaFits};
+ghost use Rattle.recover_solution.specs.Parts.{IsFittingSigma, IsSigmaAt, IsFirstUnfitSigma, IsDiagonal};
 
-use crate::names::sigma_in;
-use crate::solutions::{Constraint, Solution};
+use crate::names::{is_row_of, sigma_in};
 use decimal_e::Dec;
 use interval_word::Iv;
 use inverse_squares::over_square;
-use named_tables::{RecoverError, RecoverFault, table_of};
+use named_tables::{RecoverError, RecoverFault};
 use param_ids::{Names, ParamId, Scales, scale_of};
 use snx_rows::Row;
 use std::alloc::{AllocError, Global};
-use std::cmp::Ordering;
 use sym_blocks::SymBlock;
 
 /// The greatest size of an interval times the digits of a weight.
@@ -82,13 +81,6 @@ fn sigma_interval(weight: &Dec, dev: &Option<Dec>, k: i32) -> Option<Iv>
         Some(dev) => over_sigma(weight, dev, k),
         None => Some(Iv::point(0)),
     }
-}
-
-/// Whether a row has this name.
-fn is_row_of(id: &ParamId, row: &Row) -> bool
-    ensures { result ≡ is_row_of id.now row.now }
-{
-    row.id.cmp(id) == Ordering::Equal
 }
 
 /// The standard deviation of the row of a name, where it is positive.
@@ -165,8 +157,15 @@ fn diagonal<const N: usize>(alloc: Global, intervals: &[Iv]) -> Result<SymBlock<
     Ok(table)
 }
 
-/// The table of the constraints of standard deviations.
-fn sigma_table<const N: usize>(
+/// The table of the constraints of standard deviations, for these names: on the diagonal, for each name whose a priori row has a positive
+/// one, the weight over its square times `10^(18 - 2 t)`, where t is the scale exponent of the name; zero elsewhere. Each is rounded
+/// outward after the division and after the weight's power of ten.
+///
+/// # Errors
+///
+/// Range, twice under the first name in order whose interval passes 10^37 in size after the weight's digits, or 10^34 after its power of
+/// ten; or want of memory.
+pub fn sigma_table<const N: usize>(
     alloc: Global,
     apriori: &[Row],
     weight: &Dec,
@@ -176,38 +175,13 @@ fn sigma_table<const N: usize>(
     requires weight { IsWeight weight.now }
     requires deviations { All HasShortDeviation apriori.now }
     requires names { IsNames names.now }
-    ensures table { IfOk result (λ table. AreSigmas apriori.now weight.now scales.now names.now (Ok table)) }
-    ensures refused { IfErr result (λ cause. (cause ≡ Memory) ⊎ ((fault : RecoverFault) × (cause ≡ Fault fault) × AreSigmas apriori.now weight.now scales.now names.now (Err fault))) }
+    requires named { AreDeviationsNamed apriori.now names.now }
+    ensures table { IfOk result (λ table. IsSigmaTable apriori.now weight.now scales.now names.now (Ok table)) }
+    ensures refused { IfErr result (λ cause. (cause ≡ Memory) ⊎ ((fault : RecoverFault) × (cause ≡ Fault fault) × IsSigmaTable apriori.now weight.now scales.now names.now (Err fault))) }
+    ensures lies { IfOk result (λ table. (K : NamedSystem) → AreSigmaConstraints apriori.now weight.now K → LiesInTable scales.now names.now table K) }
+    ensures exists { IfOk result (λ table. HasOne (AreSigmaConstraints apriori.now weight.now)) }
+    ensures modest { IfOk result (λ table. IsModestTable table) }
 {
     let intervals = sigma_intervals(alloc, apriori, weight, scales, names)?;
     Ok(diagonal(alloc, &intervals)?)
-}
-
-/// The table of the constraints of a solution, for the names of its estimates.
-pub fn removed_table<const N: usize>(
-    alloc: Global,
-    solution: &Solution<'_>,
-    weight: &Dec,
-    scales: &Scales,
-    names: &Names,
-) -> Result<SymBlock<N>, RecoverError>
-    requires read { IsRead (solution_view solution.now) }
-    requires weight { IsWeight weight.now }
-    requires names { AreNamesOf (solution_view solution.now).estimates names.now }
-    requires estimated { Ok tt ≡ estimated (solution_view solution.now) }
-    ensures table { IfOk result (λ table. IsRemoved (solution_view solution.now) weight.now scales.now names.now (Ok table)) }
-    ensures refused { IfErr result (λ cause. (cause ≡ Memory) ⊎ ((fault : RecoverFault) × (cause ≡ Fault fault) × IsRemoved (solution_view solution.now) weight.now scales.now names.now (Err fault))) }
-{
-    match solution.constraint {
-        Constraint::Free => Ok(SymBlock::<N>::zero(alloc, names.len())?),
-        Constraint::Matrix(cells) => table_of(
-            alloc,
-            solution.apriori,
-            cells,
-            weight,
-            scales,
-            names,
-        ),
-        Constraint::Sigmas => sigma_table(alloc, solution.apriori, weight, scales, names),
-    }
 }

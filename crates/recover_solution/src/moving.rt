@@ -15,9 +15,9 @@ ghost use Rattle.neq_stack.specs.Systems.{name_at};
 ghost use Rattle.apriori_shift.specs.Shifts.{IsShift};
 ghost use Rattle.named_tables.specs.declared.faults.RecoverError.TheVariants.{Memory, Fault};
 ghost use Rattle.named_tables.specs.declared.faults.RecoverFault.{RecoverFault};
-ghost use Rattle.recover_solution.specs.Recovery.{IsMoved, at_estimates, range_at};
+ghost use Rattle.recover_solution.specs.Recovery.{IsModestTable, IsMoved, at_estimates, range_at};
 ghost use Rattle.recover_solution.specs.Views.{solution_view};
-ghost use Rattle.recover_solution.specs.Parts.{IsLessAt, IsModestTable};
+ghost use Rattle.recover_solution.specs.Parts.{IsLessAt};
 
 use crate::solutions::Solution;
 use apriori_shift::{ShiftError, shift_to};

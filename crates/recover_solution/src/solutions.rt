@@ -1,6 +1,6 @@
 //! Solutions and their constraints.
 
-use snx_matrices::Cell;
+use snx_matrices::{Cell, Content};
 use snx_rows::Row;
 
 /// The constraints that are removed from a solution.
@@ -8,8 +8,8 @@ use snx_rows::Row;
 pub enum Constraint<'a> {
     /// None are.
     Free,
-    /// Those of an information matrix over the a priori rows.
-    Matrix(&'a [Cell]),
+    /// Those of a matrix over the a priori rows, by what it has and its elements.
+    Matrix(Content, &'a [Cell]),
     /// Those of the standard deviations of the a priori rows, where these are positive.
     Sigmas,
 }
@@ -21,7 +21,9 @@ pub struct Solution<'a> {
     pub apriori: &'a [Row],
     /// The estimates.
     pub estimates: &'a [Row],
-    /// The elements of the information matrix, over the rows of the estimates.
+    /// What the matrix of the estimates has.
+    pub content: Content,
+    /// Its elements, over the rows of the estimates.
     pub cells: &'a [Cell],
     /// The constraints that are removed.
     pub constraint: Constraint<'a>,

@@ -2,12 +2,22 @@
 
 ghost use Rattle.std.specs.Prelude.{◌≡◌};
 ghost use Rattle.stack_rules.specs.Refusals.{of_working, of_pilot, of_vector, of_certificate, of_printing};
+ghost use Rattle.stack_rules.specs.declared.StackError.TheVariants.{Memory};
 
 use crate::StackError;
 use bounds_report::PrintError;
 use chol_guess::PilotError;
 use enclosure_check::{CheckError, VectorError};
 use equil::EquilError;
+use std::alloc::AllocError;
+
+impl From<AllocError> for StackError {
+    ghost from_gives = { λ _ r. r ≡ Memory };
+
+    fn from(_refusal: AllocError) -> StackError {
+        StackError::Memory
+    }
+}
 
 impl From<EquilError> for StackError {
     ghost from_gives = { λ x r. r ≡ of_working x };

@@ -13,7 +13,7 @@ use crate::{Solved, StackError};
 use bounds_report::printed;
 use chol_guess::pilot;
 use decimal_e::Dec;
-use enclosure_check::{check, start_vector};
+use enclosure_check::{WorkingRows, check, start_vector};
 use enclosures::Enclosed;
 use equil::working;
 use interval_word::Iv;
@@ -47,8 +47,9 @@ pub fn certify<R: Threads + Sync, const N: usize>(
 {
     let w = working(alloc, table, right)?;
     let pilot = pilot(rt, alloc, &w, workers)?;
-    let y = start_vector(alloc, &w, &pilot)?;
-    let radius = check(rt, alloc, &w, &pilot, &y, workers)?;
+    let table_rows = WorkingRows::of(alloc, &w.a)?;
+    let y = start_vector(alloc, &table_rows, &w.d, &pilot)?;
+    let radius = check(rt, alloc, &table_rows, &w.d, &pilot, &y, workers)?;
     let e = Enclosed { pilot, y, radius };
     let rows = printed(alloc, apriori, scales, &w, &e)?;
     Ok(Solved {

@@ -6,14 +6,17 @@ ghost use Rattle.snx_blocks.specs.Documents.{IsValid};
 ghost use Rattle.snx_blocks.specs.Views.{doc_view};
 ghost use Rattle.neq_stack.specs.Neqs.{IsSound, neq_view};
 ghost use Rattle.enclosures.specs.Vectors.{IsSmall};
+ghost use Rattle.enclosure_check.specs.Inputs.{IsRightSide};
 
 use anyhow::{Result, bail};
 use chol_factor::factor;
 use chol_guess::{midpoint_square, pilot};
 use decimal_e::Dec;
-use enclosure_check::{check, start_vector};
+use enclosure_check::{WorkingRows, check, start_vector};
 use enclosures::{Pilot, Radius};
 use equil::{Working, working};
+use interval_word::Iv;
+use inv_enclose::inverse;
 use neq_stack::Neq;
 use param_ids::Scales;
 use recover_neq::recover;
@@ -21,6 +24,7 @@ use snx_blocks::{Doc, read_doc};
 use stack_rules::certify;
 use std::alloc::Global;
 use std::thread::Threads;
+use sym_blocks::SymBlock;
 
 // The document that a text is.
 pub(crate) fn doc_in<R: Threads + Sync + AllocGlobal>(rt: &R, text: &[u8]) -> Result<Doc>
@@ -60,6 +64,16 @@ pub(crate) fn working_of(alloc: Global, neq: &Neq<16>) -> Result<Working<16>>
     Ok(working(alloc, &neq.table, &neq.right)?)
 }
 
+// The inverse of a table is made, as of covariances.
+pub(crate) fn inverted<R: Threads + Sync>(
+    rt: &R,
+    alloc: Global,
+    table: &SymBlock<16>,
+) -> Result<()> {
+    let _inverse = inverse(rt, alloc, table, 24, 1)?;
+    Ok(())
+}
+
 // The certified numbers of normal equations are made.
 pub(crate) fn solved<R: Threads + Sync>(rt: &R, alloc: Global, neq: &Neq<16>) -> Result<()>
     requires { IsSound (neq_view neq.now) }
@@ -90,26 +104,41 @@ pub(crate) fn pilot_of<R: Threads + Sync>(rt: &R, alloc: Global, w: &Working<16>
     Ok(pilot(rt, alloc, w, 1)?)
 }
 
-// The start vector of a working table and its pilot.
-pub(crate) fn vector_of(alloc: Global, w: &Working<16>, p: &Pilot) -> Result<Vec<i128>>
-    requires { p.now.size ≡ w.now.a.size }
-    ensures len { IfOk result (λ y. vec_len y ≡ w.now.a.size) }
-    ensures small { IfOk result (λ y. IsSmall w.now.a.size (at y.items)) }
+// The intervals of a working table, row by row.
+pub(crate) fn rows_of(alloc: Global, w: &Working<16>) -> Result<WorkingRows<'_, 16>>
+    ensures { IfOk result (λ rows. rows.table.now ≡ w.now.a) }
 {
-    Ok(start_vector(alloc, w, p)?)
+    Ok(WorkingRows::of(alloc, &w.a)?)
+}
+
+// The start vector of a working table and its pilot.
+pub(crate) fn vector_of(
+    alloc: Global,
+    rows: &WorkingRows<'_, 16>,
+    d: &[Iv],
+    p: &Pilot,
+) -> Result<Vec<i128>>
+    requires rights { IsRightSide rows.now.table.now.size d.now }
+    requires sizes { p.now.size ≡ rows.now.table.now.size }
+    ensures len { IfOk result (λ y. vec_len y ≡ rows.now.table.now.size) }
+    ensures small { IfOk result (λ y. IsSmall rows.now.table.now.size (at y.items)) }
+{
+    Ok(start_vector(alloc, rows, d, p)?)
 }
 
 // The radii of a start vector.
 pub(crate) fn radius_of<R: Threads + Sync>(
     rt: &R,
     alloc: Global,
-    w: &Working<16>,
+    rows: &WorkingRows<'_, 16>,
+    d: &[Iv],
     p: &Pilot,
     y: &[i128],
 ) -> Result<Radius>
-    requires sizes { p.now.size ≡ w.now.a.size }
-    requires len { length y.now ≡ w.now.a.size }
-    requires small { IsSmall w.now.a.size (at y.now) }
+    requires rights { IsRightSide rows.now.table.now.size d.now }
+    requires sizes { p.now.size ≡ rows.now.table.now.size }
+    requires len { length y.now ≡ rows.now.table.now.size }
+    requires small { IsSmall rows.now.table.now.size (at y.now) }
 {
-    Ok(check(rt, alloc, w, p, y, 1)?)
+    Ok(check(rt, alloc, rows, d, p, y, 1)?)
 }

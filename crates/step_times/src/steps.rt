@@ -3,7 +3,9 @@
 ghost use Rattle.std.specs.Prelude.{IfOk};
 ghost use Rattle.neq_stack.specs.Neqs.{IsSound, neq_view};
 
-use crate::calls::{doc_in, factored, neq_of, pilot_of, radius_of, solved, vector_of, working_of};
+use crate::calls::{
+    doc_in, factored, inverted, neq_of, pilot_of, radius_of, rows_of, solved, vector_of, working_of,
+};
 use crate::tables::strongly_diagonal;
 use anyhow::{Result, bail};
 use equil::{Working, working};
@@ -32,14 +34,17 @@ fn working_steps<R: Threads + Sync + Clock + Print + AllocGlobal>(
     let p = pilot_of(rt, alloc, w)?;
     let pilot = since(rt, &start)?;
     let start = Instant::now(rt)?;
-    let y = vector_of(alloc, w, &p)?;
+    let table_rows = rows_of(alloc, w)?;
+    let rows = since(rt, &start)?;
+    let start = Instant::now(rt)?;
+    let y = vector_of(alloc, &table_rows, &w.d, &p)?;
     let vector = since(rt, &start)?;
     let start = Instant::now(rt)?;
-    let radius = radius_of(rt, alloc, w, &p, &y)?;
+    let radius = radius_of(rt, alloc, &table_rows, &w.d, &p, &y)?;
     let check = since(rt, &start)?;
     println!(rt; "g={} B={} M={}", p.g(), radius.b, radius.m)?;
     if !is_quiet {
-        println!(rt; "factor {factor} pilot {pilot} vector {vector} check {check}")?;
+        println!(rt; "factor {factor} pilot {pilot} rows {rows} vector {vector} check {check}")?;
     }
     Ok(())
 }
@@ -58,6 +63,22 @@ pub fn table_steps<R: Threads + Sync + Clock + Print + AllocGlobal>(
     let right = vec![in alloc; Iv::point(0); rows]?;
     let w = working(alloc, &table, &right)?;
     working_steps(rt, &w, is_quiet)
+}
+
+/// The enclosed inverse of a strongly diagonal table, as of covariances.
+pub fn inverse_steps<R: Threads + Sync + Clock + Print + AllocGlobal>(
+    rt: &R,
+    rows: usize,
+) -> Result<()> {
+    if rows == 0 || rows > 1000 {
+        bail!("the number of rows is from 1 to 1,000");
+    }
+    let alloc = rt.alloc();
+    let table = strongly_diagonal(alloc, rows)?;
+    let start = Instant::now(rt)?;
+    inverted(rt, alloc, &table)?;
+    println!(rt; "inverse {}", since(rt, &start)?)?;
+    Ok(())
 }
 
 /// The steps of normal equations, and then all of them once more together.

@@ -9,7 +9,7 @@ use Rattle.combine_cli.specs.Parts.{part_view, IsPartOf}
 use Rattle.combine_cli.proofs.parts.parts_of.Given as goal
 
 abbrev pub invariant-loop-input : goal.invariant-loop-input
-invariant-loop-input l = record {
+invariant-loop-input g l = record {
   so_far : (rows : List Row) → HasFirstRows l.base rows → AreParts l.scales rows (map input_view (take (length l.yielded) l.fn.inputs.items)) (Ok (map part_view l.parts.items));
   each : (rows : List Row) → HasFirstRows l.base rows → AreEach (IsPartOf l.scales rows) (map input_view (take (length l.yielded) l.fn.inputs.items)) (map part_view l.parts.items);
 }

@@ -9,7 +9,7 @@ use Rattle.combine_cli.proofs.PartLaws.{fault_told}
 use Rattle.combine_cli.proofs.parts.recovered.Goals as goal
 
 pub returns-in_ok-name-in-Err-Fault : goal.returns-in_ok-name-in-Err-Fault
-returns-in_ok-name-in-Err-Fault c =
+returns-in_ok-name-in-Err-Fault g c =
     let plan = (input_view c.args.input.now).plan in
     let fault = c.in-Err-Fault.fault in
     let told : c.refusal_of_recovery.result ≡ refusal_of_recovery plan.name fault =
@@ -22,6 +22,6 @@ returns-in_ok-name-in-Err-Fault c =
     }
 
 pub returns-in_err-name-in-Err-Fault-clause-refused : goal.returns-in_err-name-in-Err-Fault-clause-refused
-returns-in_err-name-in-Err-Fault-clause-refused c =
+returns-in_err-name-in-Err-Fault-clause-refused g c =
     let p = err_from_is_err_and c.from_residual.result c.from_residual.ensures.1 in
     rw (p.1, p.2) (λ a b. absurd (a (ap status_of c.in_err-name-in-Err-Fault.ensures.memory)))

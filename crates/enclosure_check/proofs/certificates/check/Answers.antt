@@ -12,57 +12,57 @@ use Rattle.enclosure_check.proofs.certificates.check.Goals as goal
 
 pub returns-in_err-small_errors-clause-refused : goal.returns-in_err-small_errors-clause-refused
 returns-in_err-small_errors-clause-refused g c =
-    let w = c.args.w.now in
-    let n = w.a.size in
-    let t = table_of w.a w.d.items in
+    let a = c.args.rows.now.table.now in
+    let n = a.size in
+    let t = table_of a c.args.d.now in
     let p = c.args.p.now in
     let y = at c.args.y.now in
-    let es = c.deref-2.result.now in
-    let e = subst (AreErrors n t p y) (sym c.deref-2.ensures.value) (rw c.deref.ensures.value at c.in_ok-row_errors.ensures) in
+    let es = c.deref.result.now in
+    let e = subst (AreErrors n t p y) (sym c.deref.ensures.value) (c.in_ok-row_errors.ensures) in
     let same = err_from_is_err_and c.from_residual-in_err-small_errors.result c.from_residual-in_err-small_errors.ensures.1 in
     rw (same.1, same.2) (error_refused n t p y es c.in_err-small_errors.field-0.0 e c.in_err-small_errors.ensures.refused)
 
 pub certificate-requires : goal.certificate-requires
 certificate-requires g c =
-    let e = rw c.deref.ensures.value at c.in_ok-row_errors.ensures in
-    let d = c.in_ok-row_defects.ensures c.args.w.now.d.items in
-    rw (c.deref-3.ensures.value, c.deref-4.ensures.value) (e.len ∙ sym d.len)
+    let e = c.in_ok-row_errors.ensures in
+    let d = c.in_ok-row_defects.ensures c.args.d.now in
+    rw (c.deref-2.ensures.value, c.deref-3.ensures.value) (e.len ∙ sym d.len)
 
 pub returns-clause-certified : goal.returns-clause-certified
 returns-clause-certified g c =
-    let w = c.args.w.now in
-    let n = w.a.size in
-    let t = table_of w.a w.d.items in
+    let a = c.args.rows.now.table.now in
+    let n = a.size in
+    let t = table_of a c.args.d.now in
     let p = c.args.p.now in
     let y = at c.args.y.now in
-    let es = c.deref-3.result.now in
-    let ds = c.deref-4.result.now in
-    let e = subst (AreErrors n t p y) (sym c.deref-3.ensures.value) (rw c.deref.ensures.value at c.in_ok-row_errors.ensures) in
-    let d = subst (AreDefects n t p) (sym c.deref-4.ensures.value) (c.in_ok-row_defects.ensures w.d.items) in
+    let es = c.deref-2.result.now in
+    let ds = c.deref-3.result.now in
+    let e = subst (AreErrors n t p y) (sym c.deref-2.ensures.value) (c.in_ok-row_errors.ensures) in
+    let d = subst (AreDefects n t p) (sym c.deref-3.ensures.value) (c.in_ok-row_defects.ensures c.args.d.now) in
     IfOk-weaker c.certificate.result (Certifies es ds) (IsCertified n t p y) (λ v r. (r n t p y e d).0) c.certificate.ensures.certified
 
 pub returns-clause-encloses : goal.returns-clause-encloses
 returns-clause-encloses g c =
-    let w = c.args.w.now in
-    let n = w.a.size in
-    let t = table_of w.a w.d.items in
+    let a = c.args.rows.now.table.now in
+    let n = a.size in
+    let t = table_of a c.args.d.now in
     let p = c.args.p.now in
     let y = at c.args.y.now in
-    let es = c.deref-3.result.now in
-    let ds = c.deref-4.result.now in
-    let e = subst (AreErrors n t p y) (sym c.deref-3.ensures.value) (rw c.deref.ensures.value at c.in_ok-row_errors.ensures) in
-    let d = subst (AreDefects n t p) (sym c.deref-4.ensures.value) (c.in_ok-row_defects.ensures w.d.items) in
+    let es = c.deref-2.result.now in
+    let ds = c.deref-3.result.now in
+    let e = subst (AreErrors n t p y) (sym c.deref-2.ensures.value) (c.in_ok-row_errors.ensures) in
+    let d = subst (AreDefects n t p) (sym c.deref-3.ensures.value) (c.in_ok-row_defects.ensures c.args.d.now) in
     IfOk-weaker c.certificate.result (Certifies es ds) (λ v. Encloses n t y (radius_at v)) (λ v r. (r n t p y e d).1) c.certificate.ensures.certified
 
 pub returns-clause-refused : goal.returns-clause-refused
 returns-clause-refused g c =
-    let w = c.args.w.now in
-    let n = w.a.size in
-    let t = table_of w.a w.d.items in
+    let a = c.args.rows.now.table.now in
+    let n = a.size in
+    let t = table_of a c.args.d.now in
     let p = c.args.p.now in
     let y = at c.args.y.now in
-    let es = c.deref-3.result.now in
-    let ds = c.deref-4.result.now in
-    let e = subst (AreErrors n t p y) (sym c.deref-3.ensures.value) (rw c.deref.ensures.value at c.in_ok-row_errors.ensures) in
-    let d = subst (AreDefects n t p) (sym c.deref-4.ensures.value) (c.in_ok-row_defects.ensures w.d.items) in
+    let es = c.deref-2.result.now in
+    let ds = c.deref-3.result.now in
+    let e = subst (AreErrors n t p y) (sym c.deref-2.ensures.value) (c.in_ok-row_errors.ensures) in
+    let d = subst (AreDefects n t p) (sym c.deref-3.ensures.value) (c.in_ok-row_defects.ensures c.args.d.now) in
     IfErr-weaker c.certificate.result (IsRefusedOf es ds) (IsCheckRefused n t p y) (λ r q. lists_refused n t p y es ds r e d q) c.certificate.ensures.refused

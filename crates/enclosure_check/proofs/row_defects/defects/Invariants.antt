@@ -7,5 +7,5 @@ use Rattle.enclosure_check.proofs.row_defects.defects.Given as goal
 abbrev pub invariant-loop-i : goal.invariant-loop-i
 invariant-loop-i g l = record {
   len : vec_len l.defects ≡ l.i;
-  each : (k : ℕ) → k < l.i → slice_index_or l.defects.items k 0 ≡ parts_of l.a.size (table_of l.a []) l.p k;
+  each : (k : ℕ) → k < l.i → slice_index_or l.defects.items k 0 ≡ parts_of l.rows.table.now.size (table_of l.rows.table.now []) l.p k;
 }

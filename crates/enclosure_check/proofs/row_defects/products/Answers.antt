@@ -2,7 +2,7 @@ use Rattle.std.proofs.Common.{arith, rules, ap, length, FitsSigned, w64}
 use Rattle.std.proofs.lemmas.Int.{to_z-of_z}
 use Rattle.whole_numbers.specs.Intervals.{size}
 use Rattle.whole_numbers.specs.Lists.{at}
-use Rattle.enclosure_check.specs.Defects.{entry_between}
+use Rattle.enclosure_check.specs.Rows.{entry_between}
 use Rattle.enclosure_check.proofs.DefectLaws.{size_products, rows_in_bounds, adds_product}
 use Rattle.enclosure_check.proofs.row_defects.products.Goals as goal
 

@@ -1,6 +1,7 @@
 use Rattle.std.proofs.Common.{◌≡◌}
 use Rattle.whole_numbers.specs.Lists.{at}
-use Rattle.enclosure_check.specs.Defects.{entry_between, products_to}
+use Rattle.enclosure_check.specs.Defects.{products_to}
+use Rattle.enclosure_check.specs.Rows.{entry_between}
 use Rattle.enclosure_check.proofs.row_defects.products.Given as goal
 
 abbrev pub invariant-loop-k : goal.invariant-loop-k

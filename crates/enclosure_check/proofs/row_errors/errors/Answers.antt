@@ -8,16 +8,16 @@ use Rattle.enclosure_check.proofs.row_errors.errors.Goals as goal
 
 pub errors_of-requires-clause-sizes : goal.errors_of-requires-clause-sizes
 errors_of-requires-clause-sizes g c =
-    let a = c.args.a.now in
+    let a = c.args.rows.now.table.now in
     let entries = c.in_ok-entries.entries.items in
     let least = rw c.deref.ensures.value at c.least_shift-h.ensures.least in
     let shifted = rw c.deref-2.ensures.value at c.in_ok-shifted.ensures in
     rw (c.deref-3.ensures.value, c.requires.sizes)
-    (left_shifted a.size (table_of a c.args.d.now) (at c.args.y.now) entries c.in_ok-shifted.shifted.items c.least_shift-h.result c.requires.entries.few c.in_ok-entries.ensures least shifted)
+    (left_shifted a.size (table_of a c.args.d.now) (at c.args.y.now) entries c.in_ok-shifted.shifted.items c.least_shift-h.result c.args.rows.now.working.few c.in_ok-entries.ensures least shifted)
 
 pub returns : goal.returns
 returns g c =
-    let a = c.args.a.now in
+    let a = c.args.rows.now.table.now in
     let t = table_of a c.args.d.now in
     let y = at c.args.y.now in
     let entries = c.in_ok-entries.entries.items in

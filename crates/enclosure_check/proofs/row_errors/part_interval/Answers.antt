@@ -5,9 +5,9 @@ use Rattle.whole_numbers.specs.Lists.{at}
 use Rattle.enclosure_check.proofs.ErrorLaws.{part_small}
 use Rattle.enclosure_check.proofs.row_errors.part_interval.Goals as goal
 
-pub mul_small-requires : goal.mul_small-requires
-mul_small-requires c =
+pub times-requires : goal.times-requires
+times-requires c =
     let fits : FitsSigned w128 c.from.result = search rules in
     let narrow : FitsSigned w64 (at c.args.row.now c.args.k) = search rules in
     let e = simp to_z-of_z at c.from.ensures in
-    rw (to_z-of_z w128 c.from.result fits, c.nth_entry.ensures, e) (part_small c.args.row.now c.args.entries.now c.args.k c.requires.sizes c.requires.within)
+    rw (to_z-of_z w128 c.from.result fits, c.nth_ends.ensures, e) (part_small c.args.row.now c.args.entries.now c.args.k c.requires.sizes c.requires.within)

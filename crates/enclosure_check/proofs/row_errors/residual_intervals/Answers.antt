@@ -9,7 +9,7 @@ use Rattle.enclosure_check.proofs.row_errors.residual_intervals.Goals as goal
 
 pub loop-i-preserved : goal.loop-i-preserved
 loop-i-preserved g c =
-    let a = c.args.a.now in
+    let a = c.args.rows.now.table.now in
     let before : length c.loop-i.entries.items ≡ c.loop-i.i = omega (arith, c.loop-i.invariant.len, c.loop-i.entries.ok.0) in
     let items = c.in_ok-push.ensures.items in
     let lefts = residual_interval a.size (table_of a c.args.d.now) (at c.args.y.now) in

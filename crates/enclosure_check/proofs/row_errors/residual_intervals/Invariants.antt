@@ -10,6 +10,6 @@ use Rattle.enclosure_check.proofs.row_errors.residual_intervals.Given as goal
 abbrev pub invariant-loop-i : goal.invariant-loop-i
 invariant-loop-i g l = record {
   len : vec_len l.entries ≡ l.i;
-  each : (k : ℕ) → k < l.i → nth_entry l.entries.items k ≡ residual_interval l.a.size (table_of l.a l.d) (at l.y) k;
+  each : (k : ℕ) → k < l.i → nth_entry l.entries.items k ≡ residual_interval l.rows.table.now.size (table_of l.rows.table.now l.d) (at l.y) k;
   small : (k : ℕ) → k < l.i → size (nth_entry l.entries.items k) ≤ 2 ^ 126;
 }

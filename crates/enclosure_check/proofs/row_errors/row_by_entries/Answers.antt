@@ -3,8 +3,8 @@ use Rattle.enclosure_check.specs.ErrorParts.{part_interval}
 use Rattle.enclosure_check.proofs.ErrorLaws.{parts_small, step_fits}
 use Rattle.enclosure_check.proofs.row_errors.row_by_entries.Goals as goal
 
-pub add-sum-requires : goal.add-sum-requires
-add-sum-requires c =
+pub plus-sum-requires : goal.plus-sum-requires
+plus-sum-requires c =
     let r = c.args.row.now in
     let ws = c.args.entries.now in
     let s = parts_small r ws (c.loop-k.k + 1) c.requires (omega arith) in

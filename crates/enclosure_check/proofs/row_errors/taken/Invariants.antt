@@ -4,4 +4,4 @@ use Rattle.enclosure_check.specs.ErrorParts.{taken_interval}
 use Rattle.enclosure_check.proofs.row_errors.taken.Given as goal
 
 abbrev pub invariant-loop-j : goal.invariant-loop-j
-invariant-loop-j g l = l.sum ≡ sum_intervals l.j (taken_interval l.a l.y l.i)
+invariant-loop-j l = l.sum ≡ sum_intervals l.j (taken_interval l.low l.high l.y)

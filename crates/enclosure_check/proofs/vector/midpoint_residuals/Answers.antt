@@ -9,11 +9,11 @@ use Rattle.enclosure_check.proofs.vector.midpoint_residuals.Goals as goal
 
 pub loop-i-preserved : goal.loop-i-preserved
 loop-i-preserved g c =
-    let w = c.args.w.now in
+    let a = c.args.rows.now.table.now in
     let before : length c.loop-i.numbers.items ≡ c.loop-i.i = omega (arith, c.loop-i.invariant.len, c.loop-i.numbers.ok.0) in
     let fits : FitsSigned w128 c.midpoint_residual.result = search rules in
     let items = simp to_z-of_z at c.in_ok-push.ensures.items in
-    let lefts = midpoint_residual w.a.size (table_of w.a w.d.items) (at c.args.y.now) in
+    let lefts = midpoint_residual a.size (table_of a c.args.d.now) (at c.args.y.now) in
     record {
       len = omega (arith, c.in_ok-push.ensures.len, c.loop-i.invariant.len);
       each = rw items (each_push (λ k v. v ≡ lefts k) c.loop-i.numbers.items c.loop-i.i c.midpoint_residual.result (pos 0) before c.loop-i.invariant.each c.midpoint_residual.ensures.value);

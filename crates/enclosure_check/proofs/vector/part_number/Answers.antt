@@ -5,8 +5,8 @@ use Rattle.whole_numbers.specs.Lists.{at}
 use Rattle.enclosure_check.proofs.VectorLaws.{part_small}
 use Rattle.enclosure_check.proofs.vector.part_number.Goals as goal
 
-pub product-requires : goal.product-requires
-product-requires c =
+pub short_product-requires : goal.short_product-requires
+short_product-requires c =
     let r = c.args.row.now in
     let vs = c.args.numbers.now in
     let wide : FitsSigned w128 c.from.result = search rules in

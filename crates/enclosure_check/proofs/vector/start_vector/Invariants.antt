@@ -3,4 +3,4 @@ use Rattle.enclosure_check.proofs.VectorLaws.{IsVectorAfter}
 use Rattle.enclosure_check.proofs.vector.start_vector.Given as goal
 
 abbrev pub invariant-loop-k : goal.invariant-loop-k
-invariant-loop-k g l = IsVectorAfter l.w.a.size (table_of l.w.a l.w.d.items) l.p l.k l.y.items
+invariant-loop-k g l = IsVectorAfter l.rows.table.now.size (table_of l.rows.table.now l.d) l.p l.k l.y.items

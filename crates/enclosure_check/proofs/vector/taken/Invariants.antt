@@ -4,4 +4,4 @@ use Rattle.enclosure_check.specs.VectorParts.{taken_midpoint}
 use Rattle.enclosure_check.proofs.vector.taken.Given as goal
 
 abbrev pub invariant-loop-j : goal.invariant-loop-j
-invariant-loop-j g l = l.sum ≡ sum_to l.j (taken_midpoint l.w.a l.y l.i)
+invariant-loop-j l = l.sum ≡ sum_to l.j (taken_midpoint l.low l.high l.y)

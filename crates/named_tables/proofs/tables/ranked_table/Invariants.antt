@@ -7,5 +7,5 @@ abbrev pub invariant-loop-place : goal.invariant-loop-place
 invariant-loop-place g l = record {
   size : l.table.size ≡ length l.exponents;
   whole : length l.table.entries ≡ before l.table.size;
-  shown : ShowsEntries l.weight (drop l.place l.cells) l.ranks l.exponents l.table;
+  shown : ShowsEntries l.content l.weight (drop l.place l.cells) l.ranks l.exponents l.table;
 }

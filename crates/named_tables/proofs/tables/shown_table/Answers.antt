@@ -30,5 +30,5 @@ returns g c =
     let exponents = c.deref-2.result.now in
     let scaled : exponents ≡ map (scale_of c.args.scales.now) names = c.deref-2.ensures.value ∙ c.in_ok-exponents.ensures.exponents in
     let are : AreRanks names c.args.rows.now c.deref.result.now = subst (AreRanks names c.args.rows.now) (sym c.deref.ensures.value) c.in_ok-ranks.ensures in
-    if_shown c.args.rows.now c.args.cells.now c.args.weight.now c.args.scales.now names c.deref.result.now exponents c.ranked_table.result c.requires.rows.1.names c.requires.cells.placed c.requires.names c.requires.named are scaled
+    if_shown c.args.content c.args.rows.now c.args.cells.now c.args.weight.now c.args.scales.now names c.deref.result.now exponents c.ranked_table.result c.requires.rows.1.names c.requires.cells.placed c.requires.names c.requires.named are scaled
     c.ranked_table.ensures.size c.ranked_table.ensures.whole c.ranked_table.ensures.shown

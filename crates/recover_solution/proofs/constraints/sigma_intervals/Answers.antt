@@ -1,5 +1,5 @@
 use Rattle.std.proofs.Common.{◌∙◌, ◌+◌, inr, refl, sym, ap, arith}
-use Rattle.recover_solution.proofs.RemovedLaws.{first_unfit_sigma, sigma_push, pushed_items}
+use Rattle.recover_solution.proofs.SigmaTables.{first_unfit_sigma, sigma_push, pushed_items}
 use Rattle.recover_solution.proofs.constraints.sigma_intervals.Goals as goal
 
 pub returns-in_default-clause-refused : goal.returns-in_default-clause-refused

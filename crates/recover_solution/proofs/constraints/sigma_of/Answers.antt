@@ -2,7 +2,7 @@ use Rattle.std.proofs.Common.{◌∙◌, sym, ap, arith}
 use Rattle.std.specs.Option.{option_and_then}
 use Rattle.snx_rows.specs.Named.{is_row_of}
 use Rattle.named_tables.proofs.NameLaws.{first_here, none_more}
-use Rattle.recover_solution.specs.Solutions.{sigma_in}
+use Rattle.named_tables.specs.Deviations.{sigma_in}
 use Rattle.recover_solution.proofs.constraints.sigma_of.Goals as goal
 
 pub returns-then-is_row_of-clause-value : goal.returns-then-is_row_of-clause-value

@@ -1,0 +1,12 @@
+use Rattle.std.proofs.Common.{◌∙◌, ◌+◌, ◌*◌, ◌^◌, ap, arith}
+use Rattle.whole_numbers.specs.Lists.{at}
+use Rattle.enclosure_check.proofs.working_rows.WorkingRows.highs.Goals as goal
+
+pub returns-clause-ends : goal.returns-clause-ends
+returns-clause-ends g c = λ k within.
+    let s = c.args.self.now in
+    let n = s.table.now.size in
+    c.row.ensures.numbers k (omega (arith, s.high_size)) ∙ ap (λ m. at s.high.numbers (c.args.i * m + k)) s.high_size ∙ ap (λ w. w.hi) (s.entries c.args.i k c.requires within)
+
+pub returns-clause-small : goal.returns-clause-small
+returns-clause-small g c = c.row.ensures.small (2 ^ 61) c.args.self.now.high_ends

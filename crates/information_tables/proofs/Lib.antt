@@ -1,0 +1,9 @@
+pub mod OneLaws
+pub mod RowLaws
+pub mod ScaledLaws
+pub mod InverseLaws
+pub mod LieLaws
+pub mod ExistLaws
+pub mod Alone
+pub mod AnswerLaws
+pub mod TestLaws

@@ -1,0 +1,3 @@
+pub mod Exact
+pub mod Tables
+pub mod Parts

@@ -1,0 +1,10 @@
+pub mod Alone
+pub mod ColumnLaws
+pub mod ExistLaws
+pub mod HoldLaws
+pub mod InverseLaws
+pub mod MatrixLaws
+pub mod PlaceLaws
+pub mod StepLaws
+pub mod TableLaws
+pub mod UnitLaws

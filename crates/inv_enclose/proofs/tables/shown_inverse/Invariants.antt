@@ -1,0 +1,12 @@
+use Rattle.std.proofs.Common.{◌≡◌, length}
+use Rattle.sym_blocks.specs.Tables.{before}
+use Rattle.equil.specs.Tables.{exponent_of}
+use Rattle.inv_enclose.specs.Parts.{AreShown}
+use Rattle.inv_enclose.proofs.tables.shown_inverse.Given as goal
+
+abbrev pub invariant-loop-c : goal.invariant-loop-c
+invariant-loop-c g l = record {
+  size : l.out.size ≡ l.w.a.size;
+  whole : length l.out.entries ≡ before l.out.size;
+  are : AreShown l.w.a.size l.w.a l.pilot l.v l.shift (exponent_of l.w.e.items) l.c l.out;
+}

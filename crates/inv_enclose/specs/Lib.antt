@@ -1,0 +1,4 @@
+pub mod Columns
+pub mod Inverses
+pub mod Parts
+pub mod Refusals
