@@ -9,14 +9,17 @@ tools/combine.py alone says what comes. The bounds of each report of a few lines
 tools/exact.py has in fractions. tools/check_program.py runs the built program over all of them.
 """
 
+import math
 import random
 import sys
 from dataclasses import dataclass, field
+from fractions import Fraction
 from functools import cached_property
 from pathlib import Path
 
 import combine
 import control_files
+import covariances as made_covariances
 import exact
 from document_builders import EXAMPLES, NORMAL, ONE_NAME, bare, block, joined, row, strip, whole
 
@@ -320,11 +323,12 @@ def triangle(index, matrix, upper=False):
     return [strip(row, column, value) for row, column, value in pairs]
 
 
-def estimated(apriori, estimates, matrix, constraints=None, deviations=None, contents=("L INFO", "L INFO"), parts=()):
-    """The text of a solution: a priori values with their deviations, estimates, their matrix, and the matrix of the constraints."""
+def estimated(apriori, estimates, matrix, constraints=None, deviations=None, contents=("L INFO", "L INFO"), parts=(), errors=None):
+    """The text of a solution: a priori values with their deviations, estimates with theirs, the matrix of these, and that of the constraints."""
     known, index, deviations = numbered(apriori), numbered(estimates), deviations or {}
+    errors = dict.fromkeys(estimates, ".125000E+00") if errors is None else errors
     first = [row(known[name], value=value, deviation=deviations.get(name, ""), **dict(name)) for name, value in apriori.items()]
-    second = [row(index[name], value=value, deviation=".125000E+00", **dict(name)) for name, value in estimates.items()]
+    second = [row(index[name], value=value, deviation=errors[name], **dict(name)) for name, value in estimates.items()]
     blocks = [block("SOLUTION/APRIORI", *first), block(ESTIMATE, *second)]
     if matrix is not None:
         blocks.append(block(f"{INFORMATION} {contents[0]}", *triangle(index, matrix, contents[0][0] == "U")))
@@ -408,11 +412,11 @@ def refused_solutions():
     yield solution("no matrix of the constraints", "block file:a SOLUTION/MATRIX_APRIORI", estimated(two, two, both), {"constraints": "matrix"})
     yield solution("no matrix of the estimates, nor of the constraints", "block file:a SOLUTION/MATRIX_ESTIMATE", estimated(two, two, None), {"constraints": "matrix"})
     for content in ("COVA", "CORR"):
-        yield solution(f"{content} of the estimates", "unbuilt a", estimated(two, two, both, contents=(f"L {content}", "")))
-        yield solution(f"{content} of the constraints", "unbuilt a", estimated(two, two, both, {}, contents=("L INFO", f"L {content}")))
         yield solution(f"{content} of constraints that stay", None, estimated(two, two, both, {}, contents=("L INFO", f"L {content}")), {"constraints": "none"})
+        yield solution(f"{content} of no constraint", None, estimated(two, two, both, {}, contents=("L INFO", f"L {content}")))
         yield solution(f"{content} of the estimates without the constraints", "block file:a SOLUTION/MATRIX_APRIORI", estimated(two, two, both, contents=(f"L {content}", "")), {"constraints": "matrix"})
-    yield solution("COVA before an unmatched row", "unbuilt a", estimated({STAX: "1"}, two, both, contents=("L COVA", "")))
+        yield solution(f"an unmatched row before {content}", f"unmatched file:a {stay}", estimated({STAX: "1"}, two, {}, contents=(f"L {content}", "")))
+        yield solution(f"no row before {content}", "empty file:a", estimated(two, {}, {}, contents=(f"L {content}", "")))
     yield solution("an estimate without an a priori value", f"unmatched file:a {stay}", estimated({STAX: "1"}, two, both))
     yield solution("the first of two estimates", f"unmatched file:a {stay}", estimated({STAZ: "1"}, {STAY: "1", STAX: "2"}, {}))
     yield solution("a constrained row without an estimate", f"unmatched file:a {stay}", estimated(two, {STAX: "1"}, {(STAX, STAX): "5"}, {(STAX, STAY): "1"}))
@@ -432,6 +436,149 @@ def refused_solutions():
     yield solution("a right side past its range", f"range file:a {BOTH}", estimated({STAX: "1E+12", STAY: "1"}, {STAX: "-1E+12", STAY: "1"}, {(STAX, STAX): "4E+15", (STAY, STAY): "1"}))
     yield solution("a right side whose product is past its range", f"range file:a {BOTH}", one_estimate("4E+09", "5E+06", "-5E+06"))
     yield solution("constraints that leave nothing", f"pivot stack {ONE_NAME}", one_estimate("4", constraint="4"))
+
+
+# ---- covariances and correlations
+
+COVA, CORR, INFO = ("L COVA", "L COVA"), ("L CORR", "L CORR"), ("L INFO", "L INFO")
+TWO = {STAX: "1", STAY: "2"}
+NEAR = {STAX: "1.5", STAY: "2.25"}
+STAY_NAME = "STAY/ABCD/A/1/24:001:00000"
+
+
+def later(wants):
+    """What comes once correlations are built; now the file is refused."""
+    return "unbuilt a"
+
+
+def two_names(xx, xy, yy):
+    return {(STAX, STAX): xx, (STAX, STAY): xy, (STAY, STAY): yy}
+
+
+def covariances():
+    yield solution("a covariance", ROW_REPORT, one_estimate(".25", contents=COVA))
+    yield Run("solve takes covariances", {"a": one_estimate(".25", contents=COVA)}, ROW_REPORT, ["solve", "a", "report"])
+    yield solution("a standard deviation on the diagonal of correlations", later(ROW_REPORT), one_estimate(".5", contents=("U CORR", "")))
+    one = {"apriori": {STAX: "1"}, "estimates": {STAX: "1.5"}, "matrix": {(STAX, STAX): "1"}, "contents": CORR}
+    yield solution("a correlation with the deviation of its row", later(ROW_REPORT), estimated(**one, errors={STAX: ".500000E+00"}))
+    yield solution("a correlation without a deviation", later(f"no weight file:a {ONE_NAME}"), estimated(**one, errors={STAX: ""}))
+    yield solution("a correlation with a deviation of zero", later(f"no weight file:a {ONE_NAME}"), estimated(**one, errors={STAX: ".000000E+00"}))
+    yield Run("two covariances that are one", {"in": estimated(TWO, NEAR, two_names("1", "1", "1"), contents=COVA)}, f"pivot file:in {STAY_NAME}", ["solve", "in", "report"])
+    yield solution("a constraint by its covariance", None, one_estimate(".2", constraint=".25", contents=COVA))
+    yield solution("a covariance's constraint by an information matrix", None, one_estimate(".2", constraint="4", contents=("L COVA", "L INFO")))
+    yield solution("a covariance's constraint by a deviation", None, one_estimate(".2", deviation=".500000E+00", contents=COVA), {"constraints": "sigma"})
+    yield solution("an information matrix's constraint by its correlations", later(FREED_REPORT), one_estimate("5", constraint=".5", contents=("L INFO", "L CORR")))
+    yield solution("a constraint by the deviation of its row", None, one_estimate("5", deviation=".500000E+00", constraint="1", contents=("L INFO", "L CORR")))
+    yield solution("a constraint's correlation without a deviation", later(f"no weight file:a {ONE_NAME}"), one_estimate("5", constraint="1", contents=("L INFO", "L CORR")))
+    both = two_names("2", "-.5", "1")
+    yield solution("covariances of two", None, estimated(TWO, NEAR, both, contents=COVA))
+    yield solution("covariances of two, constrained", None, estimated(TWO, NEAR, both, two_names("8", "1", "9"), contents=COVA))
+    yield solution("one of two is constrained", None, estimated(TWO, NEAR, both, {(STAY, STAY): "9"}, contents=COVA))
+    yield solution("a constraint of two, one of them without a variance", f"range file:a {STAY_NAME} {ONE_NAME}", estimated(TWO, NEAR, both, {(STAX, STAY): "1", (STAY, STAY): "9"}, contents=COVA))
+    yield solution("a covariance with a weight", None, estimated(TWO, NEAR, both, two_names("8", "1", "9"), contents=COVA), {"weight": "12.5"})
+    yield solution("a covariance with scale exponents", None, estimated(TWO, NEAR, both, two_names("8", "1", "9"), contents=COVA), rest="[scale]\nSTAX = 3\nSTAY = -2\n")
+    for number, (xx, xy, yy) in enumerate([("1", ".25", "1"), ("2", ".25", "1"), ("3.123456789", "-.999", ".0001")]):
+        text = estimated(TWO, NEAR, two_names(xx, xy, yy), two_names("1", "-.5", "1"), dict.fromkeys(TWO, "7.00000E+00"), CORR, errors={STAX: ".100000E+00", STAY: "2.00000E+00"})
+        yield solution(f"correlations and their constraints, {number}", None, text)
+        yield solution(f"correlations with a weight and scale exponents, {number}", None, text, {"weight": "0.123456789"}, rest="[scale]\nSTAX = 6\nSTAY = -4\n")
+    three = estimated({STAX: "1", STAZ: "1", STAY: "2"}, {STAZ: "1", STAX: "1.5", STAY: "2"}, {**both, (STAZ, STAZ): ".01"}, contents=COVA)
+    yield solution("covariances, correlations and normal equations", None, three, b=estimated(TWO, NEAR, two_names("1", ".5", "1"), contents=CORR), c=one_estimate("4"), d=THREE["a"])
+    yield solution("an a priori row without a covariance", None, estimated({**TWO, STAZ: "1"}, NEAR, both, contents=COVA))
+    yield solution("an estimate without a variance", f"pivot file:a {STAY_NAME}", estimated(TWO, NEAR, {(STAX, STAX): "1"}, contents=COVA))
+    yield solution("a negative variance", f"range file:a {BOTH}", one_estimate("-.25", contents=COVA))
+    yield solution("a covariance past its range", f"range file:a {BOTH}", one_estimate("1.1E+10", contents=COVA))
+    yield solution("a covariance past every word", f"range file:a {STAY_NAME} {ONE_NAME}", estimated(TWO, NEAR, two_names("1", "1E+50", "1"), contents=COVA))
+    yield solution("covariances in the order of their names", f"range file:a {BOTH}", estimated({STAY: "2", STAX: "1"}, {STAY: "2.25", STAX: "1.5"}, two_names("1E+11", "0", "1E+11"), contents=COVA))
+    yield solution("a correlation over one", later(f"range file:a {STAY_NAME} {ONE_NAME}"), estimated(TWO, NEAR, two_names("1", "-1.0000001", "1"), contents=CORR))
+    yield solution("a correlation over one before a deviation", later(f"no weight file:a {STAY_NAME}"), estimated(TWO, NEAR, two_names("1", "1.1", "1"), contents=CORR, errors={STAX: "1.00000E+00", STAY: ""}))
+    yield solution("a row before the deviation of the next", later(f"range file:a {BOTH}"), estimated(TWO, NEAR, two_names("1", "0", "1"), contents=CORR, errors={STAX: "1.00000E+06", STAY: ""}))
+    yield solution("full correlation", later(f"pivot file:a {STAY_NAME}"), estimated(TWO, NEAR, two_names("1", "1", "1"), contents=CORR))
+    yield solution("a standard deviation past its range", later(f"range file:a {BOTH}"), one_estimate("1.1E+05", contents=CORR))
+    yield solution("a small covariance", f"range file:a {BOTH}", one_estimate("1E-17", contents=COVA))
+    yield solution("a smaller covariance", None, one_estimate("1E-30", contents=COVA))
+    yield solution("a weight past the range of an inverse", f"range file:a {BOTH}", one_estimate("1E-10", contents=COVA), {"weight": "1E+07"})
+    yield solution("digits of a weight past the range of an inverse", f"range file:a {BOTH}", one_estimate("1E-13", contents=COVA), {"weight": "1.23456789E-3"})
+    yield solution("the estimates before the constraints", f"pivot file:a {STAY_NAME}", estimated(TWO, NEAR, two_names("1", "1", "1"), two_names("1", "-1.5", "1"), contents=("L COVA", "L CORR")))
+    yield solution("the constraints after the estimates", later(f"range file:a {STAY_NAME} {ONE_NAME}"), estimated(TWO, NEAR, both, two_names("2", "-1.5", "1"), contents=("L COVA", "L CORR")))
+    yield solution("nearly the same covariances", None, estimated(TWO, NEAR, two_names("1", "1", "1.0000001"), contents=COVA))
+    yield solution("more nearly the same covariances", None, estimated(TWO, NEAR, two_names("1", "1", "1.000000001"), contents=COVA))
+    yield solution("still more nearly the same covariances", None, estimated(TWO, NEAR, two_names("1", "1", "1.00000000001"), contents=COVA))
+    yield solution("covariances of unlike sizes", None, estimated(TWO, NEAR, two_names("1E-08", "1E-03", "1E+09"), contents=COVA))
+
+
+# ---- one solution by its information, its covariances and its correlations
+
+
+def alike():
+    """Correlations of .6 and standard deviations that are decimals, so that all four forms are one matrix exactly."""
+    sigma = {STAX: "5E-01", STAY: ".25", STAZ: "2"}
+    covariance = {**two_names(".25", ".075", ".0625"), (STAZ, STAZ): "4"}
+    information = {**two_names("6.25", "-7.5", "25"), (STAZ, STAZ): ".25"}
+    correlation = {(STAX, STAY): ".6", **{(name, name): sigma[name] for name in sigma}}
+    ones = {(STAX, STAY): ".6", **{(name, name): "1" for name in sigma}}
+    for what, matrix, contents in (("information", information, INFO), ("covariances", covariance, COVA), ("correlations", correlation, CORR), ("correlations of rows", ones, CORR)):
+        text = estimated({**TWO, STAZ: "3"}, {**NEAR, STAZ: "3.5"}, matrix, {(STAY, STAY): ".5"}, contents=(contents[0], "L INFO"), errors={name: f"{float(value):.5E}" for name, value in sigma.items()})
+        yield solution(f"one solution by its {what}", None, text)
+        yield solution(f"one solution by its {what} beside normal equations", None, text, b=one("4", "2"))
+
+
+def are_alike(runs):
+    """Whether their exact systems are one, so that the bounds of each hold the answers of all."""
+    systems = [exact.summed(run.files, exact.control.read_control(run.files["control"])) for run in runs]
+    return all(system == systems[0] for system in systems)
+
+
+# ---- covariances made by chance
+
+
+def decimal_text(value, digits):
+    """A fraction with so many digits."""
+    if value == 0:
+        return "0"
+    scale = digits - len(str(abs(int(value)))) if abs(value) >= 1 else digits + len(str(int(1 / abs(value)))) - 1
+    return f"{round(value * Fraction(10) ** scale)}E{-scale}"
+
+
+def forms_of(rng, names, most):
+    """A strong matrix as information, covariances, and correlations with deviations on the diagonal or in the rows; and these deviations."""
+    information = {(name, name): Fraction(rng.randint(3 * most, 10 * most)) for name in names}
+    for k, name in enumerate(names):
+        for other in names[:k]:
+            information[name, other] = information[other, name] = Fraction(rng.randint(-most // 10, most // 10))
+    inverse = made_covariances.exact_inverse(information, names)
+    sigma = {name: Fraction(math.isqrt(int(inverse[name, name] * 10**40)), 10**20) for name in names}
+    pairs = [(name, other) for k, name in enumerate(names) for other in names[: k + 1]]
+    covariance = {pair: decimal_text(inverse[pair], 15) for pair in pairs}
+    between = {(a, b): decimal_text(inverse[a, b] / sigma[a] / sigma[b], 15) for a, b in pairs if a != b}
+    beside = {**between, **{(name, name): decimal_text(sigma[name], 15) for name in names}}
+    ones = {**between, **{(name, name): "1" for name in names}}
+    texts = {name: f"{float(sigma[name]):.5E}" for name in names}
+    return [({pair: decimal_text(information[pair], 15) for pair in pairs}, "INFO"), (covariance, "COVA"), (beside, "CORR"), (ones, "CORR")], texts
+
+
+def chance_covariances():
+    rng = random.Random(20261203)
+    for number in range(24):
+        codes = rng.sample(["GRAZ", "WTZR", "ZIMM", "ONSA"], rng.randint(1, 3))
+        names = [named(kind, code) for code in codes for kind in rng.sample(AXES, rng.randint(1, 3))]
+        base = {name: rng.randint(-6 * 10**9, 6 * 10**9) for name in names}
+        files, entries = {}, []
+        for k in range(rng.randint(1, 3)):
+            mine = rng.sample(names, rng.randint(1, len(names)))
+            values = {name: f"{base[name] + rng.randint(-500, 500)}E-03" for name in mine}
+            estimates = {name: f"{base[name] + rng.randint(-500, 500)}.{rng.randint(0, 999):03}E-03" for name in rng.sample(mine, len(mine))}
+            forms, errors = forms_of(rng, mine, 10**6)
+            matrix, content = rng.choice(forms[:2])
+            loose, deviations = forms_of(rng, rng.sample(mine, rng.randint(1, len(mine))), 10**2)
+            constraints, held = rng.choice(loose[:2])
+            contents = (f"{rng.choice('LU')} {content}", f"{rng.choice('LU')} {held}")
+            files[f"f{k}"] = estimated(values, estimates, matrix, constraints if rng.random() < 0.6 else None, deviations, contents, errors=errors)
+            more = {"weight": rng.choice(["0.5", "2", "1.25", "12.3456789", "1E-3"])} if rng.random() < 0.5 else {}
+            entries.append(entry(f"f{k}", **more))
+        rest = f'[run]\nreference = "{rng.choice(list(files))}"\n' if rng.random() < 0.4 else ""
+        if number % 3 == 0:
+            rest += f"[scale]\nSTAX = {rng.randint(-2, 2)}\nSTAZ = {rng.randint(-2, 2)}\n"
+        yield Run(f"covariances made by chance, {number}", {**files, "control": control(*entries, rest=rest)})
 
 
 # ---- solutions made by chance: with constraints of both kinds, beside normal equations
@@ -522,6 +669,9 @@ def examples():
     free = {path.name: path.read_bytes() for path in sorted((EXAMPLES / "free-network").iterdir())}
     published = {path.name: path.read_bytes() for path in sorted((EXAMPLES / "solutions").iterdir())}
     yield Run("the example of solutions", published, words=["combine", "control.toml", "combined.snx", "report.txt"])
+    covariances = {path.name: path.read_bytes() for path in sorted((EXAMPLES / "covariances").iterdir())}
+    yield Run("the example of covariances", covariances, words=["combine", "control.toml", "combined.snx", "report.txt"])
+    yield Run("one of its solutions", covariances, words=["solve", "west.snx", "report.txt"])
     yield Run("the example of a free network", free, words=["combine", "control.toml", "combined.snx", "report.txt"])
     yield Run("the example of a free network without a datum", free, "pivot stack STAY/ZIMM/A/1/24:003:43200", words=["combine", "no-datum.toml", "combined.snx", "report.txt"])
 
@@ -539,6 +689,9 @@ GROUPS = {
     "free networks made by chance": free_chances,
     "solutions": solutions,
     "solutions that are refused": refused_solutions,
+    "covariances and correlations": covariances,
+    "one solution in four forms": alike,
+    "covariances made by chance": chance_covariances,
     "solutions made by chance": chance_solutions,
     "many names": sizes,
     "combinations made by chance": chances,
@@ -555,6 +708,8 @@ def main():
             Path(sys.argv[2], name).write_bytes(text)
         return 0
     wrong = [run for run in runs if not run.is_as_wanted()]
+    forms = list(alike())
+    wrong += [chosen[0] for chosen in (forms[::2], forms[1::2]) if not are_alike(chosen)]
     for run in wrong:
         print(f"FAILED  {run.what}: {run.answer}, not {run.wants!r}")
     print(f"{len(runs) - len(wrong)} passed, {len(wrong)} failed")

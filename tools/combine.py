@@ -11,6 +11,7 @@ tools/solve.py has the rules from a stack to its report.
 import sys
 import apriori
 import control
+import covariances
 import datum
 import recovery
 import sinex
@@ -99,14 +100,17 @@ def recover(plan, document, scales):
         known, table, right = recovery.recover(plan, document, scales)
     except recovery.Missing as missing:
         raise Refusal(3, f"block {place} {missing.args[0]}") from None
-    except recovery.Unbuilt:
-        raise Refusal(3, f"unbuilt {plan.name}") from None
     except recovery.Unmatched as unmatched:
         raise Refusal(3, f"unmatched {place} {unmatched.args[0].text()}") from None
     except recovery.Empty:
         raise Refusal(3, f"empty {place}") from None
+    except covariances.Unbuilt:
+        raise Refusal(3, f"unbuilt {plan.name}") from None
     except recovery.Range as passed:
         raise Refusal(6, f"range {place} {' '.join(name.text() for name in passed.args)}") from None
+    except covariances.NotInverted as refusal:
+        cause, name, *rest = refusal.args
+        raise Refusal(6, " ".join([cause, place, name.text(), *map(str, rest)])) from None
     return Part(table, right, known)
 
 

@@ -6,9 +6,11 @@ A word stands at a pair of names or at a name, and pairs without one are zero.
 from fractions import Fraction
 
 import apriori
+import covariances
 import datum
 import sinex
 import solve
+from covariances import Range, lower
 
 MOST = 10**34
 MOST_BEFORE = 10**37
@@ -18,20 +20,12 @@ class Missing(Exception):
     """A block that is needed."""
 
 
-class Unbuilt(Exception):
-    """A matrix that is not built yet would be used."""
-
-
 class Unmatched(Exception):
     """A name without the row that it must have."""
 
 
 class Empty(Exception):
     """There is no row."""
-
-
-class Range(Exception):
-    """The names of the row and the column of the first word that passes its bound."""
 
 
 class Blocks:
@@ -50,8 +44,6 @@ class Blocks:
         if self.held == "auto":
             self.held = "matrix" if sinex.APRIORI_MATRIX in document else "none"
         self.constraints = needed(document, sinex.APRIORI_MATRIX) if self.held == "matrix" else None
-        if any(matrix.content != b"INFO" for matrix in (self.matrix, self.constraints) if matrix):
-            raise Unbuilt
 
     def constrained(self):
         """The names of the constrained a priori rows, in the order of the rows."""
@@ -92,22 +84,20 @@ def over_square(weight, sigma, power, where):
     return w
 
 
-def lower(names):
-    return ((row, column) for i, row in enumerate(names) for column in names[: i + 1])
-
-
-def table_of(weight, elements, names, t):
-    """The words of a matrix, at both orders of a pair."""
+def table_of(matrix, rows, weight, names, t):
+    """The words of an information matrix, at both orders of a pair: as it stands, or by its covariances."""
+    if matrix.content in (b"COVA", b"CORR"):
+        return covariances.information(matrix, rows, weight, names, t)
     table = {}
     for row, column in lower(names):
-        if value := elements.get((row, column), 0):
+        if value := matrix.elements.get((row, column), 0):
             table[row, column] = table[column, row] = weighted(weight, value, 18 - t[row] - t[column], (row, column))
     return table
 
 
 def constraint_table(blocks, weight, names, t):
     if blocks.held == "matrix":
-        return table_of(weight, blocks.constraints.elements, names, t)
+        return table_of(blocks.constraints, blocks.apriori, weight, sorted(blocks.constrained()), t)
     if blocks.held == "sigma":
         sigma = {row.name: row.deviation for row in blocks.apriori.rows}
         return {(name, name): over_square(weight, sigma[name], 18 - 2 * t[name], (name, name)) for name in names if sigma[name]}
@@ -145,7 +135,7 @@ def recover(plan, document, scales):
         raise Empty
     names = sorted(blocks.rows.by_name)
     t = {name: scales.get(name.kind, 0) for name in names}
-    table = table_of(plan.weight, blocks.matrix.elements, names, t)
+    table = table_of(blocks.matrix, blocks.rows, plan.weight, names, t)
     removed = constraint_table(blocks, plan.weight, names, t)
     right = dict(zip(names, right_of(blocks, plan.weight, names, t, table)))
     for pair, w in removed.items():
@@ -161,14 +151,16 @@ def exact(plan, document):
     blocks = Blocks(plan, document)
     values = {row.name: row.value for row in blocks.rows.rows}
     known = {name: blocks.apriori.by_name[name].value for name in values}
-    matrix = {pair: value * plan.weight for pair, value in blocks.matrix.elements.items()}
+    given = covariances.exact_information(blocks.matrix, blocks.rows, sorted(values))
+    matrix = {pair: value * plan.weight for pair, value in given.items()}
     if blocks.normal:
         return known, matrix, {name: value * plan.weight for name, value in values.items()}
     right = dict.fromkeys(values, Fraction(0))
     for (row, column), value in matrix.items():
         right[row] += value * (values[column] - known[column])
     if blocks.held == "matrix":
-        for pair, value in blocks.constraints.elements.items():
+        held = covariances.exact_information(blocks.constraints, blocks.apriori, sorted(blocks.constrained()))
+        for pair, value in held.items():
             matrix[pair] = matrix.get(pair, 0) - value * plan.weight
     if blocks.held == "sigma":
         for row in blocks.apriori.rows:

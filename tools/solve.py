@@ -191,11 +191,17 @@ def defect(rows, row, i, g):
     return up(sum(min(size(w), whole) for w in zip(low, high)), 2 ** (g + 30))
 
 
-def certificate(a, d, g, r, y):
-    """B, M and the radii."""
+def defects(a, g, r):
+    """The defect of each row."""
+    rows = [nonzero(row) for row in a]
+    return [defect(rows, r[i], i, g) for i in range(len(a))]
+
+
+def certificate(a, d, g, r, y, parts=None):
+    """B, M and the radii; the defects, if they are known, serve each right side."""
     n = len(a)
     rows = [nonzero(row) for row in a]
-    parts = [defect(rows, r[i], i, g) for i in range(n)]
+    parts = defects(a, g, r) if parts is None else parts
     left = [less(d[i], total(times(y[j], w) for j, w in rows[i])) for i in range(n)]
     h = least(lambda h: all(size(shifted(w, h)) <= 2**66 for w in left))
     left = [shifted(w, h) for w in left]
