@@ -439,7 +439,8 @@ def solution_matrices():
         block("SOLUTION/ESTIMATE", row(1, "STAX", "ABCD", "1.5")),
         block("SOLUTION/MATRIX_ESTIMATE L COVA", strip(1, 1, ".25")),
     )
-    yield Case("estimates and a covariance alone", joined(document), "unbuilt in")
+    yield Case("estimates and a covariance alone", joined(document), None)
+    yield Case("estimates and a correlation alone", joined(document).replace(b"L COVA", b"L CORR"), "unbuilt in")
 
 
 def missing_rows():
