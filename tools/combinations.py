@@ -446,11 +446,6 @@ NEAR = {STAX: "1.5", STAY: "2.25"}
 STAY_NAME = "STAY/ABCD/A/1/24:001:00000"
 
 
-def later(wants):
-    """What comes once correlations are built; now the file is refused."""
-    return "unbuilt a"
-
-
 def two_names(xx, xy, yy):
     return {(STAX, STAX): xx, (STAX, STAY): xy, (STAY, STAY): yy}
 
@@ -458,18 +453,18 @@ def two_names(xx, xy, yy):
 def covariances():
     yield solution("a covariance", ROW_REPORT, one_estimate(".25", contents=COVA))
     yield Run("solve takes covariances", {"a": one_estimate(".25", contents=COVA)}, ROW_REPORT, ["solve", "a", "report"])
-    yield solution("a standard deviation on the diagonal of correlations", later(ROW_REPORT), one_estimate(".5", contents=("U CORR", "")))
+    yield solution("a standard deviation on the diagonal of correlations", ROW_REPORT, one_estimate(".5", contents=("U CORR", "")))
     one = {"apriori": {STAX: "1"}, "estimates": {STAX: "1.5"}, "matrix": {(STAX, STAX): "1"}, "contents": CORR}
-    yield solution("a correlation with the deviation of its row", later(ROW_REPORT), estimated(**one, errors={STAX: ".500000E+00"}))
-    yield solution("a correlation without a deviation", later(f"no weight file:a {ONE_NAME}"), estimated(**one, errors={STAX: ""}))
-    yield solution("a correlation with a deviation of zero", later(f"no weight file:a {ONE_NAME}"), estimated(**one, errors={STAX: ".000000E+00"}))
+    yield solution("a correlation with the deviation of its row", ROW_REPORT, estimated(**one, errors={STAX: ".500000E+00"}))
+    yield solution("a correlation without a deviation", f"no weight file:a {ONE_NAME}", estimated(**one, errors={STAX: ""}))
+    yield solution("a correlation with a deviation of zero", f"no weight file:a {ONE_NAME}", estimated(**one, errors={STAX: ".000000E+00"}))
     yield Run("two covariances that are one", {"in": estimated(TWO, NEAR, two_names("1", "1", "1"), contents=COVA)}, f"pivot file:in {STAY_NAME}", ["solve", "in", "report"])
     yield solution("a constraint by its covariance", None, one_estimate(".2", constraint=".25", contents=COVA))
     yield solution("a covariance's constraint by an information matrix", None, one_estimate(".2", constraint="4", contents=("L COVA", "L INFO")))
     yield solution("a covariance's constraint by a deviation", None, one_estimate(".2", deviation=".500000E+00", contents=COVA), {"constraints": "sigma"})
-    yield solution("an information matrix's constraint by its correlations", later(FREED_REPORT), one_estimate("5", constraint=".5", contents=("L INFO", "L CORR")))
+    yield solution("an information matrix's constraint by its correlations", FREED_REPORT, one_estimate("5", constraint=".5", contents=("L INFO", "L CORR")))
     yield solution("a constraint by the deviation of its row", None, one_estimate("5", deviation=".500000E+00", constraint="1", contents=("L INFO", "L CORR")))
-    yield solution("a constraint's correlation without a deviation", later(f"no weight file:a {ONE_NAME}"), one_estimate("5", constraint="1", contents=("L INFO", "L CORR")))
+    yield solution("a constraint's correlation without a deviation", f"no weight file:a {ONE_NAME}", one_estimate("5", constraint="1", contents=("L INFO", "L CORR")))
     both = two_names("2", "-.5", "1")
     yield solution("covariances of two", None, estimated(TWO, NEAR, both, contents=COVA))
     yield solution("covariances of two, constrained", None, estimated(TWO, NEAR, both, two_names("8", "1", "9"), contents=COVA))
@@ -489,17 +484,17 @@ def covariances():
     yield solution("a covariance past its range", f"range file:a {BOTH}", one_estimate("1.1E+10", contents=COVA))
     yield solution("a covariance past every word", f"range file:a {STAY_NAME} {ONE_NAME}", estimated(TWO, NEAR, two_names("1", "1E+50", "1"), contents=COVA))
     yield solution("covariances in the order of their names", f"range file:a {BOTH}", estimated({STAY: "2", STAX: "1"}, {STAY: "2.25", STAX: "1.5"}, two_names("1E+11", "0", "1E+11"), contents=COVA))
-    yield solution("a correlation over one", later(f"range file:a {STAY_NAME} {ONE_NAME}"), estimated(TWO, NEAR, two_names("1", "-1.0000001", "1"), contents=CORR))
-    yield solution("a correlation over one before a deviation", later(f"no weight file:a {STAY_NAME}"), estimated(TWO, NEAR, two_names("1", "1.1", "1"), contents=CORR, errors={STAX: "1.00000E+00", STAY: ""}))
-    yield solution("a row before the deviation of the next", later(f"range file:a {BOTH}"), estimated(TWO, NEAR, two_names("1", "0", "1"), contents=CORR, errors={STAX: "1.00000E+06", STAY: ""}))
-    yield solution("full correlation", later(f"pivot file:a {STAY_NAME}"), estimated(TWO, NEAR, two_names("1", "1", "1"), contents=CORR))
-    yield solution("a standard deviation past its range", later(f"range file:a {BOTH}"), one_estimate("1.1E+05", contents=CORR))
+    yield solution("a correlation over one", f"range file:a {STAY_NAME} {ONE_NAME}", estimated(TWO, NEAR, two_names("1", "-1.0000001", "1"), contents=CORR))
+    yield solution("a correlation over one before a deviation", f"no weight file:a {STAY_NAME}", estimated(TWO, NEAR, two_names("1", "1.1", "1"), contents=CORR, errors={STAX: "1.00000E+00", STAY: ""}))
+    yield solution("a row before the deviation of the next", f"range file:a {BOTH}", estimated(TWO, NEAR, two_names("1", "0", "1"), contents=CORR, errors={STAX: "1.00000E+06", STAY: ""}))
+    yield solution("full correlation", f"pivot file:a {STAY_NAME}", estimated(TWO, NEAR, two_names("1", "1", "1"), contents=CORR))
+    yield solution("a standard deviation past its range", f"range file:a {BOTH}", one_estimate("1.1E+05", contents=CORR))
     yield solution("a small covariance", f"range file:a {BOTH}", one_estimate("1E-17", contents=COVA))
     yield solution("a smaller covariance", None, one_estimate("1E-30", contents=COVA))
     yield solution("a weight past the range of an inverse", f"range file:a {BOTH}", one_estimate("1E-10", contents=COVA), {"weight": "1E+07"})
     yield solution("digits of a weight past the range of an inverse", f"range file:a {BOTH}", one_estimate("1E-13", contents=COVA), {"weight": "1.23456789E-3"})
     yield solution("the estimates before the constraints", f"pivot file:a {STAY_NAME}", estimated(TWO, NEAR, two_names("1", "1", "1"), two_names("1", "-1.5", "1"), contents=("L COVA", "L CORR")))
-    yield solution("the constraints after the estimates", later(f"range file:a {STAY_NAME} {ONE_NAME}"), estimated(TWO, NEAR, both, two_names("2", "-1.5", "1"), contents=("L COVA", "L CORR")))
+    yield solution("the constraints after the estimates", f"range file:a {STAY_NAME} {ONE_NAME}", estimated(TWO, NEAR, both, two_names("2", "-1.5", "1"), contents=("L COVA", "L CORR")))
     yield solution("nearly the same covariances", None, estimated(TWO, NEAR, two_names("1", "1", "1.0000001"), contents=COVA))
     yield solution("more nearly the same covariances", None, estimated(TWO, NEAR, two_names("1", "1", "1.000000001"), contents=COVA))
     yield solution("still more nearly the same covariances", None, estimated(TWO, NEAR, two_names("1", "1", "1.00000000001"), contents=COVA))
@@ -568,9 +563,9 @@ def chance_covariances():
             values = {name: f"{base[name] + rng.randint(-500, 500)}E-03" for name in mine}
             estimates = {name: f"{base[name] + rng.randint(-500, 500)}.{rng.randint(0, 999):03}E-03" for name in rng.sample(mine, len(mine))}
             forms, errors = forms_of(rng, mine, 10**6)
-            matrix, content = rng.choice(forms[:2])
+            matrix, content = rng.choice(forms)
             loose, deviations = forms_of(rng, rng.sample(mine, rng.randint(1, len(mine))), 10**2)
-            constraints, held = rng.choice(loose[:2])
+            constraints, held = rng.choice(loose)
             contents = (f"{rng.choice('LU')} {content}", f"{rng.choice('LU')} {held}")
             files[f"f{k}"] = estimated(values, estimates, matrix, constraints if rng.random() < 0.6 else None, deviations, contents, errors=errors)
             more = {"weight": rng.choice(["0.5", "2", "1.25", "12.3456789", "1E-3"])} if rng.random() < 0.5 else {}

@@ -104,8 +104,8 @@ def recover(plan, document, scales):
         raise Refusal(3, f"unmatched {place} {unmatched.args[0].text()}") from None
     except recovery.Empty:
         raise Refusal(3, f"empty {place}") from None
-    except covariances.Unbuilt:
-        raise Refusal(3, f"unbuilt {plan.name}") from None
+    except covariances.NoWeight as lacking:
+        raise Refusal(3, f"no weight {place} {lacking.args[0].text()}") from None
     except recovery.Range as passed:
         raise Refusal(6, f"range {place} {' '.join(name.text() for name in passed.args)}") from None
     except covariances.NotInverted as refusal:

@@ -20,10 +20,6 @@ class NoWeight(Exception):
     """The first name whose standard deviation is missing or not positive."""
 
 
-class Unbuilt(Exception):
-    """Correlations would be used, which is not built yet."""
-
-
 class NotInverted(Exception):
     """A rule refuses the inverse: the cause, the name, and the number of what passes."""
 
@@ -149,9 +145,11 @@ def weighted(table, weight, names):
 
 def information(matrix, rows, weight, names, t):
     """The words of the inverse of covariances or correlations, times the weight."""
-    if matrix.content == b"CORR":
-        raise Unbuilt
-    return weighted(inverted(covariances(matrix.elements, names, t), names), weight, names)
+    if matrix.content == b"COVA":
+        table = covariances(matrix.elements, names, t)
+    else:
+        table = correlated(matrix.elements, rows, names, t)
+    return weighted(inverted(table, names), weight, names)
 
 
 # ---- the exact matrices, apart from every word

@@ -440,7 +440,7 @@ def solution_matrices():
         block("SOLUTION/MATRIX_ESTIMATE L COVA", strip(1, 1, ".25")),
     )
     yield Case("estimates and a covariance alone", joined(document), None)
-    yield Case("estimates and a correlation alone", joined(document).replace(b"L COVA", b"L CORR"), "unbuilt in")
+    yield Case("estimates and a correlation alone", joined(document).replace(b"L COVA", b"L CORR"), None)
 
 
 def missing_rows():

@@ -14,6 +14,7 @@ pub mod GroupSorts
 pub mod GroupStacks
 pub mod OneCombination
 pub mod PartLaws
+pub mod RefuseLaws
 pub mod ReportLaws
 pub mod RunLaws
 pub mod ShiftedParts

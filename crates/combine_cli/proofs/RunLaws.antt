@@ -132,11 +132,10 @@ cut_writing words outcome outputs old mid new v p keeps w =
     let cut : StoppedAt (Ok outputs) old new = record { read = mid; keeps = keeps; onward = inr w } in
     subst (λ o. StoppedAt o old new) same cut
 
-pub cut_saying : (words : List (List ℕ)) (outcome : Outcome) (refusal : Refusal) (old mid new : Content) (result : Result (Unit {0}) DeskError) → IsVerdict words old.files outcome → IsVerdict words old.files (Err refusal) → KeepsAll old mid
-    → Says (line_of refusal) mid new result → StoppedAt outcome old new
-cut_saying words outcome refusal old mid new result v r keeps s =
+pub cut_saying : (words : List (List ℕ)) (outcome : Outcome) (refusal : Refusal) (old mid new : Content) → IsVerdict words old.files outcome → IsVerdict words old.files (Err refusal) → KeepsAll old mid
+    → SaysPart (line_of refusal) mid new → StoppedAt outcome old new
+cut_saying words outcome refusal old mid new v r keeps part =
     let same : Err refusal ≡ outcome = one_verdict words old.files (Err refusal) outcome r v in
-    let part = said_part (line_of refusal) mid new result s in
     let cut : StoppedAt (Err refusal) old new = record {
       files = part.files ∙ keeps.files;
       said = (part.said.0, part.said.1, part.said.2 ∙ ap (λ b. b ++ part.said.0) keeps.said);

@@ -13,13 +13,13 @@ use Rattle.stack_rules.specs.declared.StackError.{StackError}
 use Rattle.stack_rules.specs.declared.StackError.TheVariants as rules
 use Rattle.refusal_lines.specs.declared.refusal.Scope.TheVariants.{File, Stack}
 use Rattle.refusal_lines.specs.declared.refusal.Refusal.{Refusal}
-use Rattle.refusal_lines.specs.declared.refusal.Refusal.TheVariants.{Block, Unmatched, UnmatchedSite, Empty, Unbuilt, Memory, Range, Pivot, Condition, Residual, Defect}
+use Rattle.refusal_lines.specs.declared.refusal.Refusal.TheVariants.{Block, Unmatched, NoWeight, UnmatchedSite, Empty, Memory, Range, Pivot, Condition, Residual, Defect}
 
 -- the refusal of a file of this name, whose normal equations are not recovered
 abbrev pub refusal_of_recovery : List ℕ → FileFault → Refusal
 refusal_of_recovery name (files.MissingBlock block) = Block (File name) block
 refusal_of_recovery name (files.Recovery (recovery.Unmatched id)) = Unmatched (File name) id
-refusal_of_recovery name (files.Recovery recovery.Unbuilt) = Unbuilt name
+refusal_of_recovery name (files.Recovery (recovery.NoWeight id)) = NoWeight (File name) id
 refusal_of_recovery name (files.Recovery recovery.Empty) = Empty (File name)
 refusal_of_recovery name (files.Recovery (recovery.Range row col)) = Range (File name) row col
 refusal_of_recovery name (files.Recovery (recovery.Pivot id)) = Pivot (File name) id

@@ -43,7 +43,7 @@ fn workers_of(control: &Control) -> usize
 ///
 /// # Errors
 ///
-/// The first refusal, in this order: UnitClash for the least name with two units; for each file in turn Block, Unmatched, Empty, Unbuilt,
+/// The first refusal, in this order: UnitClash for the least name with two units; for each file in turn Block, Unmatched, Empty, NoWeight,
 /// Range, Pivot, Condition, Residual and Defect, and then the Range of its way to the common a priori values; for each group TooMany, and
 /// then TooMany for the whole stack; UnmatchedSite and Range of the datum; then the rules' Range, Pivot, Condition, Residual and Defect; or
 /// want of memory.

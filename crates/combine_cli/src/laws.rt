@@ -92,7 +92,7 @@ pub fn refusals_are_told()
     ensures block { line_of (refusal_of_recovery (codes "in") (files.MissingBlock sections.Apriori)) ≡ codes "snxcomb: block file:in SOLUTION/APRIORI\n" }
     ensures needed { line_of (refusal_of_recovery (codes "in") (files.MissingBlock sections.NormalMatrix))
         ≡ codes "snxcomb: block file:in SOLUTION/NORMAL_EQUATION_MATRIX\n" }
-    ensures unbuilt { line_of (refusal_of_recovery (codes "in") (files.Recovery recovery.Unbuilt)) ≡ codes "snxcomb: unbuilt in\n" }
+    ensures weight { line_of (refusal_of_recovery (codes "in") (files.Recovery (recovery.NoWeight worked_name))) ≡ codes "snxcomb: no weight file:in STAX/ABCD/A/1/00:000:00000\n" }
     ensures unmatched { line_of (refusal_of_recovery (codes "in") (files.Recovery (recovery.Unmatched worked_name))) ≡ codes "snxcomb: unmatched file:in STAX/ABCD/A/1/00:000:00000\n" }
     ensures empty { line_of (refusal_of_recovery (codes "in") (files.Recovery recovery.Empty)) ≡ codes "snxcomb: empty file:in\n" }
     ensures unit { line_of (refusals.UnitClash worked_name) ≡ codes "snxcomb: unit STAX/ABCD/A/1/00:000:00000\n" }

@@ -50,7 +50,10 @@ fn refusal_of_blocks(name: Name, fault: &RecoverFault) -> Refusal
             place: Scope::File(name),
             id: *id,
         },
-        RecoverFault::Unbuilt => Refusal::Unbuilt { name },
+        RecoverFault::NoWeight { id } => Refusal::NoWeight {
+            place: Scope::File(name),
+            id: *id,
+        },
         RecoverFault::Empty => Refusal::Empty {
             place: Scope::File(name),
         },

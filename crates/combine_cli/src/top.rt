@@ -1,5 +1,6 @@
 // The top call.
-ghost use Rattle.std.specs.Prelude.{◌≡◌, ◌≢◌, ◌≤◌, ◌⊎◌, ℕ, List, IsTrue, IfOk, OnErr, map, Ok, string_bytes};
+ghost use Rattle.std.specs.Prelude.{◌≡◌, ◌≢◌, ◌≤◌, ◌⊎◌, ℕ, List, IsTrue, IfOk, OnErr, map, Ok, Err, string_bytes};
+ghost use Rattle.desk_io.specs.declared.desk.DeskError.TheVariants.{Fault};
 ghost use Rattle.desk_io.specs.Content.{IsFront};
 ghost use Rattle.desk_io.specs.Desk.{HasCause, Rose, Says};
 ghost use Rattle.desk_io.specs.Outputs.{NamedText};
@@ -27,6 +28,25 @@ fn say_refusal<D: Desk>(alloc: Global, desk: &mut D, refusal: &Refusal) -> Resul
     }
 }
 
+// Says the line of a refusal, where there is memory for it and the desk did not fail.
+fn refuse<D: Desk>(alloc: Global, desk: &mut D, refusal: &Refusal) -> Result<u8, DeskError>
+    ensures status { IfOk result (λ status. (status ≡ status_of refusal.now) × IsStatus status × (status ≢ 0) × (status ≢ 4) × (status ≢ 5)) }
+    ensures cause { status_of refusal.now ≢ 5 → HasCause (D.faults desk.old) (D.faults desk.new) result }
+    ensures fault { status_of refusal.now ≡ 5 → (result ≡ Err Fault) × (D.faults desk.new ≡ D.faults desk.old) }
+    ensures done { IsTrue D.tells → IfOk result (λ status. Says (line_of refusal.now) (D.content desk.old) (D.content desk.new) (Ok tt)) }
+    ensures part { IsTrue D.tells → SaysPart (line_of refusal.now) (D.content desk.old) (D.content desk.new) }
+    ensures silent { IsTrue D.tells → (status_of refusal.now ≡ 4) ⊎ (status_of refusal.now ≡ 5) → D.content desk.new ≡ D.content desk.old }
+{
+    match status(refusal) {
+        4 => Err(DeskError::Memory),
+        5 => Err(DeskError::Fault),
+        status => {
+            say_refusal(alloc, desk, refusal)?;
+            Ok(status)
+        }
+    }
+}
+
 // Does what was decided. An error says that it was cut short.
 fn carry_out<R: Threads + Sync, D: Desk>(
     rt: &R,
@@ -47,14 +67,7 @@ fn carry_out<R: Threads + Sync, D: Desk>(
             write_outputs(desk, &outputs)?;
             Ok(0)
         }
-        Err(refusal) => match status(&refusal) {
-            4 => Err(DeskError::Memory),
-            5 => Err(DeskError::Fault),
-            status => {
-                say_refusal(alloc, desk, &refusal)?;
-                Ok(status)
-            }
-        },
+        Err(refusal) => refuse(alloc, desk, &refusal),
     }
 }
 

@@ -20,12 +20,12 @@ use Rattle.recover_solution.specs.Exact.{HasNoRight}
 pub information_some : (content : Content) (rows : List Row) (cells : List Cell) (names : List PlainId) (weight : Decimal) (E : NamedSystem) → IsInformation content rows cells names weight E → 0 < E.q
 information_some Info rows cells names weight E is = is.some
 information_some Cova rows cells names weight E is = is.over_them.some
-information_some Corr rows cells names weight E is = absurd is
+information_some Corr rows cells names weight E is = is.over_them.some
 
 pub information_right : (content : Content) (rows : List Row) (cells : List Cell) (names : List PlainId) (weight : Decimal) (E : NamedSystem) → IsInformation content rows cells names weight E → HasNoRight E
 information_right Info rows cells names weight E is = is.right
 information_right Cova rows cells names weight E is = is.over_them.right
-information_right Corr rows cells names weight E is = absurd is
+information_right Corr rows cells names weight E is = is.over_them.right
 
 -- ---- tables
 -- as many rows as names, and the intervals of their lower triangle
@@ -36,7 +36,7 @@ pub record HasRows (names : List PlainId) (table : SymTable) : Type 0 where
 covariances_size : (content : Content) (rows : List Row) (cells : List Cell) (scales : ScaleMap) (names : List PlainId) (table : SymTable) → AreCovarianceIntervals content rows cells scales names (Ok table) → table.size ≡ length names
 covariances_size Info rows cells scales names table is = absurd is
 covariances_size Cova rows cells scales names table is = is.0.size
-covariances_size Corr rows cells scales names table is = absurd is
+covariances_size Corr rows cells scales names table is = is.0.size
 
 inverse_rows : (content : Content) (rows : List Row) (cells : List Cell) (weight : Decimal) (scales : ScaleMap) (names : List PlainId) (table : SymTable) → IsInverseTable content rows cells weight scales names (Ok table) → HasRows names table
 inverse_rows content rows cells weight scales names table h =
@@ -53,4 +53,4 @@ inverse_rows content rows cells weight scales names table h =
 pub information_rows : (content : Content) (rows : List Row) (cells : List Cell) (weight : Decimal) (scales : ScaleMap) (names : List PlainId) (table : SymTable) → IsInformationTable content rows cells weight scales names (Ok table) → HasRows names table
 information_rows Info rows cells weight scales names table is = record { size = is.0.size; lower = is.0.lower }
 information_rows Cova rows cells weight scales names table is = inverse_rows Cova rows cells weight scales names table is
-information_rows Corr rows cells weight scales names table is = let e = is in absurd (cc)
+information_rows Corr rows cells weight scales names table is = inverse_rows Corr rows cells weight scales names table is

@@ -21,6 +21,7 @@ use Rattle.named_tables.proofs.Alone.{one_names}
 use Rattle.named_tables.proofs.MatchLaws.{has_row}
 use Rattle.information_tables.specs.Exact.{IsInformation}
 use Rattle.information_tables.specs.Tables.{IsInformationTable}
+use Rattle.correlations.proofs.Alone.{one_covariances}
 use Rattle.information_tables.proofs.Alone.{information_is_one}
 use Rattle.inv_enclose.proofs.Alone.{inverse_is_one}
 use Rattle.named_tables.proofs.Alone.{one_table_by}
@@ -54,13 +55,13 @@ module _ (apriori : List Row) (weight : Decimal) (scales : ScaleMap) (names : Li
   constraint_is_one Free = free_is_one
   constraint_is_one (Matrix content cells) =
       let part = touched_names apriori cells names in
-      then_is_one (IsInformationTable content apriori cells weight scales part) (AreSpread names part) (information_is_one one_table_by inverse_is_one content apriori cells weight scales part) (λ small given. spread_is_one part small)
+      then_is_one (IsInformationTable content apriori cells weight scales part) (AreSpread names part) (information_is_one one_table_by one_covariances inverse_is_one content apriori cells weight scales part) (λ small given. spread_is_one part small)
   constraint_is_one Sigmas = one_sigma_table apriori weight scales names
 
 pub solved_is_one : (solution : PlainSolution) (weight : Decimal) (scales : ScaleMap) → IsOne (IsSolved solution weight scales)
 solved_is_one solution weight scales =
     then_is_one (AreParameters solution) _ (parameters_are_one solution) (λ names given.
-    then_is_one (IsInformationTable solution.content solution.estimates solution.cells weight scales names) _ (information_is_one one_table_by inverse_is_one solution.content solution.estimates solution.cells weight scales names) (λ table made.
+    then_is_one (IsInformationTable solution.content solution.estimates solution.cells weight scales names) _ (information_is_one one_table_by one_covariances inverse_is_one solution.content solution.estimates solution.cells weight scales names) (λ table made.
     then_is_one (IsConstraintTable solution.constraint solution.apriori weight scales names) (λ removed. IsFreed solution scales names table removed) (constraint_is_one solution.apriori weight scales names solution.constraint) (λ removed told.
     freed_is_one solution scales names table removed)))
 

@@ -12,6 +12,7 @@ use Rattle.snx_matrices.specs.declared.elements.Content.TheVariants.{Cova, Corr,
 use Rattle.named_tables.specs.Tables.{IsUnfitEntry, OneTable}
 use Rattle.named_tables.specs.Weighted.{one_decimal, WeightFits}
 use Rattle.named_tables.specs.declared.faults.RecoverFault.TheVariants.{Range}
+use Rattle.correlations.specs.Correlations.{OneCovariances}
 use Rattle.inv_enclose.specs.Columns.{IsInverted, OneInverse}
 use Rattle.information_tables.specs.Tables.{AreCovarianceIntervals, by_name, IsWeightedTable, AreWeighted, OneInformation}
 use Rattle.information_tables.specs.Parts.{IsWeightedInverse}
@@ -40,7 +41,7 @@ module _ (weight : Decimal) (names : List PlainId) (table : SymTable) where
   one_weighted (Err _) r f g = absurd f
 
 -- ---- all together
-module _ (tables : OneTable) (inverse : OneInverse) where
+module _ (tables : OneTable) (correlated : OneCovariances) (inverse : OneInverse) where
   one_weighted_inverse : (weight : Decimal) (names : List PlainId) (table : SymTable) → IsOne (IsWeightedInverse weight names table)
   one_weighted_inverse weight names table =
       then_is_one (Renamed (by_name names) (IsInverted table (pos 24))) (AreWeighted weight names) (renamed_is_one (by_name names) (IsInverted table (pos 24)) (inverse table (pos 24))) (λ out given. one_weighted weight names out)
@@ -49,4 +50,5 @@ module _ (tables : OneTable) (inverse : OneInverse) where
   information_is_one Info rows cells weight scales names = tables Info rows cells weight scales names
   information_is_one Cova rows cells weight scales names =
       then_is_one (AreCovarianceIntervals Cova rows cells scales names) (IsWeightedInverse weight names) (tables Cova rows cells one_decimal scales names) (λ table given. one_weighted_inverse weight names table)
-  information_is_one Corr rows cells weight scales names = λ one other a b. a ∙ sym b
+  information_is_one Corr rows cells weight scales names =
+      then_is_one (AreCovarianceIntervals Corr rows cells scales names) (IsWeightedInverse weight names) (correlated rows cells scales names) (λ table given. one_weighted_inverse weight names table)

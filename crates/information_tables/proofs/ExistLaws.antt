@@ -23,6 +23,7 @@ use Rattle.neq_stack.proofs.MeaningLaws.{means_multiple}
 use Rattle.neq_stack.proofs.NameLaws.{place_found, place_missing}
 use Rattle.named_tables.specs.Weighted.{one_decimal, weighted_element}
 use Rattle.named_tables.proofs.MeaningLaws.{element_means}
+use Rattle.correlations.specs.Exact.{AreCorrelatedBy}
 use Rattle.inv_enclose.specs.Inverses.{IsInverse}
 use Rattle.information_tables.specs.Exact.{IsGiven, HasCovariances, IsWeightOver, IsOverCovariances, MultiplesAreInformation}
 
@@ -44,6 +45,9 @@ covariances_exist rows cells names =
         elements = λ one other here there. subst (λ d. Means d (over_one.2 one other).0 over_one.0) (product_one (element_of rows cells one other)) (over_one.2 one other).1;
       },
     )
+
+pub correlations_exist : (rows : List Row) (cells : List Cell) (names : List PlainId) → (q : ℕ) × HasOne (AreCorrelatedBy rows cells names q) → HasOne (HasCovariances Corr rows cells names)
+correlations_exist rows cells names (q, one) = (record { q = q; a = one.0; c = λ id. pos 0 }, record { some = one.1.some; elements = one.1.each })
 
 -- ---- the inverse at names
 -- the elements of a matrix at two places, zero where one of them is none
@@ -115,4 +119,4 @@ over_multiple content rows cells names weight E k some is = record { Q = is.Q; c
 pub multiples_are : MultiplesAreInformation
 multiples_are Info rows cells names weight E k some is = given_multiple rows cells weight E k some is
 multiples_are Cova rows cells names weight E k some is = over_multiple Cova rows cells names weight E k some is
-multiples_are Corr rows cells names weight E k some is = absurd is
+multiples_are Corr rows cells names weight E k some is = over_multiple Corr rows cells names weight E k some is

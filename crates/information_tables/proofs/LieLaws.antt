@@ -35,6 +35,7 @@ use Rattle.named_tables.specs.Tables.{HasNames, IsTableOf, IsTableOfContent, Lie
 use Rattle.named_tables.specs.Weighted.{one_decimal, weighted_element, entry_power, element_power, scale_of}
 use Rattle.named_tables.proofs.EntryLaws.{lies_in_table}
 use Rattle.named_tables.proofs.TableLaws.{name_here}
+use Rattle.correlations.specs.Exact.{correlation_of, IsCorrelated}
 use Rattle.inv_enclose.specs.Inverses.{IsSymmetric, IsInverse}
 use Rattle.information_tables.specs.Exact.{IsGiven, IsCovariance, HasCovariances, IsWeightOver}
 use Rattle.information_tables.specs.Parts.{IsOfInverse}
@@ -65,14 +66,38 @@ given_sym (cell ∷ cells) i j =
     chosen false o = refl
 
 -- two tests that hold together are one
+same_test : (a b : Bool) → (a ≡ true → b ≡ true) → (b ≡ true → a ≡ true) → a ≡ b
+same_test true b to from = sym (to refl)
+same_test false true to from = from refl
+same_test false false to from = refl
+
+id_sym : (one other : PlainId) → is_same_id one other ≡ is_same_id other one
+id_sym one other = same_test (is_same_id one other) (is_same_id other one) (λ h. (same_id other one).1 (sym ((same_id one other).0 h))) (λ h. (same_id one other).1 (sym ((same_id other one).0 h)))
+
+product_comm : (a b : Decimal) → product a b ≡ product b a
+product_comm a b = decimal_by (product a b) (product b a) (*ℤ_comm a.mant b.mant) (omega (arith, ints))
+
 means_alone : (d e : Decimal) (x y : ℤ) (q : ℕ) → d ≡ e → Means d x q → Means e y q → x ≡ y
 means_alone d e x y q same one other = same_from_product x y (ten_below d.exp) (ten_below_some d.exp) (sym one ∙ subst (λ c. Means c y q) (sym same) other)
 
 module _ (rows : List Row) (cells : List Cell) (names : List PlainId) where
+  correlation_sym : (one other : PlainId) → correlation_of rows cells one other ≡ correlation_of rows cells other one
+  correlation_sym one other =
+      ap (λ (b : Bool). cond b one_decimal (element_of rows cells one other)) (id_sym one other)
+      ∙ ap (λ d. cond (is_same_id other one) one_decimal d) (given_sym cells (place_of rows one) (place_of rows other))
+
+  one_correlated : (one other : PlainId) (x y : ℤ) (q : ℕ) → IsCorrelated rows cells names one other x q → IsCorrelated rows cells names other one y q → x ≡ y
+  one_correlated one other x y q a b =
+      let first : a.s ≡ b.t = same_Some a.s b.t (sym a.s_is ∙ b.t_is) in
+      let second : a.t ≡ b.s = same_Some a.t b.s (sym a.t_is ∙ b.s_is) in
+      means_alone (product (correlation_of rows cells one other) (product a.s a.t)) (product (correlation_of rows cells other one) (product b.s b.t)) x y q
+      (ap (λ d. product d (product a.s a.t)) (correlation_sym one other)
+      ∙ ap (product (correlation_of rows cells other one)) (product_comm a.s a.t ∙ ap (λ d. product d a.s) second ∙ ap (product b.s) first)) a.means b.means
+
   one_covariance : (content : Content) (one other : PlainId) (x y : ℤ) (q : ℕ) → IsCovariance content rows cells names one other x q → IsCovariance content rows cells names other one y q → x ≡ y
   one_covariance Info one other x y q a b = absurd a
   one_covariance Cova one other x y q a b = means_alone (element_of rows cells one other) (element_of rows cells other one) x y q (given_sym cells (place_of rows one) (place_of rows other)) a b
-  one_covariance Corr one other x y q a b = absurd a
+  one_covariance Corr one other x y q a b = one_correlated one other x y q a b
 
   pub covariances_symmetric : (content : Content) (Q : NamedSystem) → HasCovariances content rows cells names Q → IsSymmetric (length names) (over names Q)
   covariances_symmetric content Q has i j row column =
@@ -99,6 +124,18 @@ module _ (rows : List Row) (cells : List Cell) (scales : ScaleMap) (names : List
           let k = element_power Cova scales one other in
           let means : Means (weighted_element rows cells one_decimal one other) (Q.a one other) Q.q = subst (λ d. Means d (Q.a one other) Q.q) (sym (product_one (element_of rows cells one other))) (has.elements one other (contained names i one here) (contained names j other there)) in
           subst (λ w. HoldsTimes w (Q.a one other) Q.q k) (sym (are.entries i j one other here there)) (means_holds (weighted_element rows cells one_decimal one other) (Q.a one other) Q.q k has.some means)
+
+  pub correlations_held : ((i j : ℕ) (one other : PlainId) (x : ℤ) (q : ℕ) → slice_get names i ≡ Some one → slice_get names j ≡ Some other → 0 < q → IsCorrelated rows cells names one other x q → HoldsTimes (entry_at table i j) x q (element_power Cova scales one other))
+      → HasCovariances Corr rows cells names Q → HoldsCovariances table.size (exponents_at scales names) table (over names Q)
+  correlations_held holds has = record { some = has.some; entries = each }
+    where
+      each : (i j : ℕ) → i < table.size → j < table.size → HoldsTimes (entry_at table i j) (Q.a (name_at names i) (name_at names j)) Q.q (pos 24 +ℤ scale_of scales (name_at names i) +ℤ scale_of scales (name_at names j))
+      each i j row column =
+          let one = name_at names i in
+          let other = name_at names j in
+          let here = name_here names i (omega arith) in
+          let there = name_here names j (omega arith) in
+          holds i j one other (Q.a one other) Q.q here there has.some (has.elements one other (contained names i one here) (contained names j other there))
 
 -- ---- inverses at any names
 zero_holds : (q : ℕ) (k : ℤ) → HoldsTimes zero_interval (pos 0) q k

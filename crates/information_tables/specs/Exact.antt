@@ -12,6 +12,7 @@ use Rattle.snx_matrices.specs.declared.elements.Content.{Content}
 use Rattle.snx_matrices.specs.declared.elements.Content.TheVariants.{Cova, Corr, Info}
 use Rattle.neq_stack.specs.Systems.{NamedSystem, over, multiple}
 use Rattle.named_tables.specs.Weighted.{weighted_element}
+use Rattle.correlations.specs.Exact.{IsCorrelated}
 use Rattle.inv_enclose.specs.Inverses.{IsInverse}
 
 -- ---- an information matrix as it stands
@@ -22,11 +23,11 @@ pub record IsGiven (rows : List Row) (cells : List Cell) (weight : Decimal) (E :
   pub right : (id : PlainId) → E.c id ≡ pos 0
 
 -- ---- the inverses of covariances
--- x / q is the covariance of two names: their element. (Correlations are not built yet.)
+-- x / q is the covariance of two names: their element, or their correlation times both standard deviations
 abbrev pub IsCovariance : Content → List Row → List Cell → List PlainId → PlainId → PlainId → ℤ → ℕ → Type 0
 IsCovariance Info rows cells names one other x q = ⊥
 IsCovariance Cova rows cells names one other x q = Means (element_of rows cells one other) x q
-IsCovariance Corr rows cells names one other x q = ⊥
+IsCovariance Corr rows cells names one other x q = IsCorrelated rows cells names one other x q
 
 -- Q has the covariances of these names
 pub record HasCovariances (content : Content) (rows : List Row) (cells : List Cell) (names : List PlainId) (Q : NamedSystem) : Type 0 where
@@ -54,7 +55,7 @@ pub record IsOverCovariances (content : Content) (rows : List Row) (cells : List
 abbrev pub IsInformation : Content → List Row → List Cell → List PlainId → Decimal → NamedSystem → Type 0
 IsInformation Info rows cells names weight E = IsGiven rows cells weight E
 IsInformation Cova rows cells names weight E = IsOverCovariances Cova rows cells names weight E
-IsInformation Corr rows cells names weight E = ⊥
+IsInformation Corr rows cells names weight E = IsOverCovariances Corr rows cells names weight E
 
 -- ---- what is promised of it
 -- with an information matrix also each multiple of it

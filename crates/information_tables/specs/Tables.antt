@@ -14,17 +14,18 @@ use Rattle.neq_stack.specs.Systems.{name_at}
 use Rattle.named_tables.specs.Tables.{IsUnfitEntry, IsTable, IsTableBy}
 use Rattle.named_tables.specs.Weighted.{one_decimal, weighted_interval, WeightFits}
 use Rattle.named_tables.specs.declared.faults.RecoverFault.{RecoverFault}
-use Rattle.named_tables.specs.declared.faults.RecoverFault.TheVariants.{Empty, Unbuilt, Range, Pivot, Condition, Residual, Defect}
+use Rattle.named_tables.specs.declared.faults.RecoverFault.TheVariants.{Empty, Range, Pivot, Condition, Residual, Defect}
+use Rattle.correlations.specs.Correlations.{AreCovariances}
 use Rattle.inv_enclose.specs.Columns.{IsInverted}
 use Rattle.inv_enclose.specs.declared.InvError.{InvError}
 use Rattle.inv_enclose.specs.declared.InvError.TheVariants as inverses
 
 -- ---- covariances
--- those of the elements themselves, times 10^(24 + t_i + t_j), where t are the scale exponents of the names
+-- those of the elements themselves, or of correlations; times 10^(24 + t_i + t_j), where t are the scale exponents of the names
 abbrev pub AreCovarianceIntervals : Content → List Row → List Cell → ScaleMap → List PlainId → Result SymTable RecoverFault → Type 0
 AreCovarianceIntervals Info rows cells scales names result = ⊥
 AreCovarianceIntervals Cova rows cells scales names result = IsTableBy Cova rows cells one_decimal scales names result
-AreCovarianceIntervals Corr rows cells scales names result = ⊥
+AreCovarianceIntervals Corr rows cells scales names result = AreCovariances rows cells scales names result
 
 -- ---- the inverse
 -- a place in it is refused under its names. (Want of memory is no cause of a step.)
@@ -56,12 +57,11 @@ IsInverseTable content rows cells weight scales names =
     Then (AreCovarianceIntervals content rows cells scales names) (λ table.
     Then (Renamed (by_name names) (IsInverted table (pos 24))) (AreWeighted weight names))
 
--- the information matrix for these names in intervals, times the weight and 10^(18 - t_i - t_j), or the first cause for which there is none.
--- Correlations are not built yet, and are always refused as that.
+-- the information matrix for these names in intervals, times the weight and 10^(18 - t_i - t_j), or the first cause for which there is none
 abbrev pub IsInformationTable : Content → List Row → List Cell → Decimal → ScaleMap → List PlainId → Result SymTable RecoverFault → Type 0
 IsInformationTable Info rows cells weight scales names = IsTable rows cells weight scales names
 IsInformationTable Cova rows cells weight scales names = IsInverseTable Cova rows cells weight scales names
-IsInformationTable Corr rows cells weight scales names = λ result. result ≡ Err Unbuilt
+IsInformationTable Corr rows cells weight scales names = IsInverseTable Corr rows cells weight scales names
 
 -- there is one table, or one first cause, and never both
 abbrev pub OneInformation : Type 0

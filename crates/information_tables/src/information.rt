@@ -8,7 +8,7 @@ ghost use Rattle.param_ids.specs.Order.{IsNames};
 ghost use Rattle.snx_rows.specs.Blocks.{AreSound};
 ghost use Rattle.snx_rows.specs.declared.rows.Shape.{Shape};
 ghost use Rattle.snx_matrices.specs.Elements.{AreElementsOf};
-ghost use Rattle.snx_matrices.specs.declared.elements.Content.TheVariants.{Cova, Info};
+ghost use Rattle.snx_matrices.specs.declared.elements.Content.TheVariants.{Cova, Corr, Info};
 ghost use Rattle.neq_stack.specs.Systems.{NamedSystem};
 ghost use Rattle.named_tables.specs.Tables.{HasNames, LiesInTable};
 ghost use Rattle.named_tables.specs.Weighted.{IsWeight, one_decimal};
@@ -19,9 +19,10 @@ ghost use Rattle.information_tables.specs.Tables.{IsInformationTable, OneInforma
 ghost use Rattle.information_tables.specs.Parts.{IsAnswered};
 
 use crate::inverting::weighted_inverse;
+use correlations::{correlated, one_covariances};
 use decimal_e::Dec;
 use inv_enclose::one_inverse;
-use named_tables::{RecoverError, RecoverFault, one_table, table_by, table_of};
+use named_tables::{RecoverError, one_table, table_by, table_of};
 use param_ids::{Names, Scales};
 use snx_matrices::{Cell, Content};
 use snx_rows::Row;
@@ -85,16 +86,42 @@ fn of_covariances<R: Threads + Sync, const N: usize>(
     }
 }
 
+/// The table of the inverse of the covariances of correlations, times the weight.
+fn of_correlations<R: Threads + Sync, const N: usize>(
+    rt: &R,
+    alloc: Global,
+    rows: &[Row],
+    cells: &[Cell],
+    weight: &Dec,
+    scales: &Scales,
+    names: &Names,
+    workers: usize,
+) -> Result<SymBlock<N>, RecoverError>
+    requires rows { (shape : Shape) × AreSound shape rows.now }
+    requires cells { AreElementsOf (length rows.now) cells.now }
+    requires names { IsNames names.now }
+    requires named { All (HasNames names.now rows.now) cells.now }
+    requires weight { IsWeight weight.now }
+    requires some_workers { 1 ≤ workers }
+    requires few_workers { workers ≤ 16 }
+    ensures { IsAnswered Corr rows.now cells.now weight.now scales.now names.now result }
+{
+    match correlated::<N>(alloc, rows, cells, scales, names) {
+        Ok(covariances) => weighted_inverse(rt, alloc, &covariances, weight, names, workers),
+        Err(cause) => Err(cause),
+    }
+}
+
 /// The information matrix of a matrix over these rows, for these names, in intervals: each element times the weight and
 /// `10^(18 - t_i - t_j)`, where t are the scale exponents of the names. Covariances are inverted, and each inverse that they admit lies in
 /// the intervals.
 ///
 /// # Errors
 ///
-/// The first cause for which there is none. Of an information matrix: Range, as `table_of` of `named_tables` has it. Of covariances: Range;
-/// then the causes of `inverse` of `inv_enclose` under the names of their places; then Range, row by row up to the diagonal, where an
-/// interval times the weight passes its bounds. Of correlations, which are not built yet: Unbuilt. Or want of memory. The number of
-/// workers, from 1 to 16, has no effect yet.
+/// The first cause for which there is none. Of an information matrix: Range, as `table_of` of `named_tables` has it. Of covariances: Range,
+/// or of correlations NoWeight and Range, as `correlated` of `correlations` has them; then the causes of `inverse` of `inv_enclose` under
+/// the names of their places; then Range, row by row up to the diagonal, where an interval times the weight passes its bounds; or want of
+/// memory. The number of workers, from 1 to 16, has no effect yet.
 pub fn information_of<R: Threads + Sync, const N: usize>(
     rt: &R,
     alloc: Global,
@@ -124,7 +151,7 @@ pub fn information_of<R: Threads + Sync, const N: usize>(
     match content {
         Content::Info => given(alloc, rows, cells, weight, scales, names),
         Content::Cova => of_covariances(rt, alloc, rows, cells, weight, scales, names, workers),
-        Content::Corr => Err(RecoverError::Fault(RecoverFault::Unbuilt)),
+        Content::Corr => of_correlations(rt, alloc, rows, cells, weight, scales, names, workers),
     }
 }
 
@@ -133,6 +160,7 @@ pub fn one_information()
     ensures { OneInformation }
 {
     one_table();
+    one_covariances();
     one_inverse();
 }
 

@@ -1,4 +1,4 @@
-//! One name, whose covariance and information say the same.
+//! One name, whose covariance, correlation and information say the same.
 
 ghost use Rattle.std.specs.Prelude.{pos, negsuc, ◌≤ℤ◌, ◌<ℤ◌, IfSome, length};
 ghost use Rattle.snx_rows.specs.Blocks.{AreSound};
@@ -128,6 +128,6 @@ fn one_name(rt: HostRuntime) -> Result<(), Fail> {
     ));
     assert_eq!(rt; both_of(&rt, alloc, Content::Info, 4, 0), worked);
     assert_eq!(rt; both_of(&rt, alloc, Content::Cova, 25, -2), worked);
-    assert_eq!(rt; both_of(&rt, alloc, Content::Corr, 5, -1), None);
+    assert_eq!(rt; both_of(&rt, alloc, Content::Corr, 5, -1), worked);
     Ok(())
 }

@@ -13,9 +13,9 @@ pub enum RecoverFault {
     /// A row has this name, and there is none of it in the block that must have one: the first such row.
     #[error("no row of this name")]
     Unmatched { id: ParamId },
-    /// Correlations would be used, which is not built yet.
-    #[error("a matrix that is not built")]
-    Unbuilt,
+    /// The row of this name has no positive standard deviation, which its correlations need: the first such row.
+    #[error("no standard deviation")]
+    NoWeight { id: ParamId },
     /// There is no row.
     #[error("no row")]
     Empty,

@@ -23,7 +23,7 @@ use Rattle.named_tables.specs.Naming.{matched, filled}
 use Rattle.named_tables.specs.Tables.{IsUnfitEntry}
 use Rattle.named_tables.specs.Weighted.{entry_power, weighted_interval}
 use Rattle.named_tables.specs.declared.faults.RecoverFault.{RecoverFault}
-use Rattle.named_tables.specs.declared.faults.RecoverFault.TheVariants.{Unmatched, Unbuilt, Empty, Range, Pivot, Condition, Residual, Defect}
+use Rattle.named_tables.specs.declared.faults.RecoverFault.TheVariants.{Unmatched, NoWeight, Empty, Range, Pivot, Condition, Residual, Defect}
 use Rattle.named_tables.proofs.Alone.{one_names}
 use Rattle.named_tables.proofs.TableLaws.{name_here}
 use Rattle.recover_solution.specs.Solutions.{PlainSolution}
@@ -70,7 +70,7 @@ module _ (apriori : List Row) (weight : Decimal) (scales : ScaleMap) (names : Li
   fit_or_not : (table : SymTable) (fault : RecoverFault) → IsSigmaTable apriori weight scales names (Ok table) → IsSigmaTable apriori weight scales names (Err fault) → ⊥
   fit_or_not table (Range row col) a b = never_unfit names (EntrySigmaFits apriori weight scales names) row col a.1 b
   fit_or_not table (Unmatched id) a b = b
-  fit_or_not table Unbuilt a b = b
+  fit_or_not table (NoWeight id) a b = b
   fit_or_not table Empty a b = b
   fit_or_not table (Pivot id) a b = b
   fit_or_not table (Condition id) a b = b
@@ -87,7 +87,7 @@ module _ (apriori : List Row) (weight : Decimal) (scales : ScaleMap) (names : Li
   unfit : (fault : RecoverFault) → IsSigmaTable apriori weight scales names (Err fault) → IsUnfit fault
   unfit (Range row col) a = record { row = row; col = col; is = refl; entry = a }
   unfit (Unmatched id) a = absurd a
-  unfit Unbuilt a = absurd a
+  unfit (NoWeight id) a = absurd a
   unfit Empty a = absurd a
   unfit (Pivot id) a = absurd a
   unfit (Condition id) a = absurd a

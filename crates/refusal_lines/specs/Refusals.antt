@@ -16,7 +16,7 @@ use Rattle.control_doc.specs.declared.plans.Site.{Site}
 use Rattle.refusal_lines.specs.declared.refusal.Scope.{Scope}
 use Rattle.refusal_lines.specs.declared.refusal.Scope.TheVariants.{File, Group, Stack}
 use Rattle.refusal_lines.specs.declared.refusal.Refusal.{Refusal}
-use Rattle.refusal_lines.specs.declared.refusal.Refusal.TheVariants.{Words, Control, NoFile, TooLong, Line, Block, UnitClash, Unmatched, UnmatchedSite, Empty, TooMany, Unbuilt, Memory, Desk, Range, Pivot, Condition, Residual, Defect}
+use Rattle.refusal_lines.specs.declared.refusal.Refusal.TheVariants.{Words, Control, NoFile, TooLong, Line, Block, UnitClash, Unmatched, NoWeight, UnmatchedSite, Empty, TooMany, Unbuilt, Memory, Desk, Range, Pivot, Condition, Residual, Defect}
 
 -- the statuses that a run answers
 abbrev pub IsStatus : ℕ → Type 0
@@ -33,6 +33,7 @@ status_of (Line name fault) = 3
 status_of (Block place block) = 3
 status_of (UnitClash id) = 3
 status_of (Unmatched place id) = 3
+status_of (NoWeight place id) = 3
 status_of (UnmatchedSite site) = 3
 status_of (Empty place) = 3
 status_of (TooMany place count) = 3
@@ -107,6 +108,7 @@ text_of (Line name fault) = name ++ (codes ":" ++ (decimal fault.line ++ (codes 
 text_of (Block place block) = codes "block " ++ (place_text place ++ (codes " " ++ section_name block))
 text_of (UnitClash id) = codes "unit " ++ id_text id
 text_of (Unmatched place id) = at_unknown (codes "unmatched ") place id
+text_of (NoWeight place id) = at_unknown (codes "no weight ") place id
 text_of (UnmatchedSite site) = codes "unmatched site " ++ site_text site
 text_of (Empty place) = codes "empty " ++ place_text place
 text_of (TooMany place count) = codes "too many " ++ (place_text place ++ (codes " " ++ decimal count))

@@ -60,6 +60,11 @@ pub enum Refusal {
         place: Scope,
         id: ParamId,
     },
+    /// The row of this name has no positive standard deviation, which its correlations need: the first such row.
+    NoWeight {
+        place: Scope,
+        id: ParamId,
+    },
     /// A coordinate of this site of the datum, the first such, is not there exactly once.
     UnmatchedSite {
         site: Site,
@@ -140,6 +145,7 @@ pub fn status(refusal: &Refusal) -> u8
         | Refusal::Block { .. }
         | Refusal::UnitClash { .. }
         | Refusal::Unmatched { .. }
+        | Refusal::NoWeight { .. }
         | Refusal::UnmatchedSite { .. }
         | Refusal::Empty { .. }
         | Refusal::TooMany { .. }
@@ -380,6 +386,7 @@ fn text(alloc: Global, refusal: &Refusal) -> Result<Vec<u8>, AllocError>
         Refusal::Block { place, block } => block_text(alloc, place, *block),
         Refusal::UnitClash { id } => unit_text(alloc, id),
         Refusal::Unmatched { place, id } => at_unknown(alloc, b"unmatched ", place, id),
+        Refusal::NoWeight { place, id } => at_unknown(alloc, b"no weight ", place, id),
         Refusal::UnmatchedSite { site } => unmatched_site_text(alloc, site),
         Refusal::Empty { place } => empty_text(alloc, place),
         Refusal::TooMany { place, count } => too_many_text(alloc, place, *count),

@@ -1,12 +1,14 @@
 use Rattle.std.proofs.Common.{◌≤◌, ◌<◌, ◌*◌, ◌^◌, ℕ, Bor, List, map, length, Ok, ap, arith, sym, subst}
 use Rattle.std.specs.Prelude.{All}
 use Rattle.std.proofs.lemmas.List.{length-map}
+use Rattle.std.proofs.lemmas.Result.{err_from_is_err_and}
+use Rattle.stated_order.proofs.StepLaws.{then_stops}
 use Rattle.control_doc.specs.Views.{plan_view}
 use Rattle.control_doc.specs.declared.plans.FilePlan.{FilePlan}
 use Rattle.neq_stack.specs.ByName.{AreAtMost}
 use Rattle.neq_stack.specs.Neqs.{neq_view}
 use Rattle.neq_stack.specs.declared.Neq.{Neq}
-use Rattle.combine_cli.specs.Combination.{Group, group_of}
+use Rattle.combine_cli.specs.Combination.{Group, group_of, AreGroupStacks, IsWholeStack}
 use Rattle.combine_cli.specs.Parts.{part_view}
 use Rattle.combine_cli.proofs.AlikeLaws.{whole_is_of_parts}
 use Rattle.combine_cli.proofs.GroupStacks.{stacks_sound, stacks_agree, parts_stack}
@@ -37,6 +39,13 @@ stack_of_stacks-requires-clause-fit c =
     (omega (arith, long, length-map plans group_at, c.in_ok-plans.ensures.few)) (omega (arith, long)) in
     subst (λ (l : List (Neq 16)). (most : ℕ) × All (AreAtMost most) (map neq_view l) × (length l * most < 10 ^ 38)) (sym c.deref-2.ensures.value)
     (fit.0, fit.1, subst (λ n. n * fit.0 < 10 ^ 38) (length-map stacks neq_view) fit.2)
+
+pub returns-in_err-stacks-clause-refused : goal.returns-in_err-stacks-clause-refused
+returns-in_err-stacks-clause-refused c =
+    let p = err_from_is_err_and c.from_residual-in_err-stacks.result c.from_residual-in_err-stacks.ensures.1 in
+    let parts = map part_view c.args.parts.now in
+    let groups = map group_at c.in_ok-plans.plans.items in
+    rw (p.1, p.2) (λ a b. (groups, c.in_ok-plans.ensures.groups, then_stops (AreGroupStacks parts groups) IsWholeStack _ (rw c.deref.ensures.value at (c.in_err-stacks.ensures.refused a b))))
 
 pub returns-clause-whole : goal.returns-clause-whole
 returns-clause-whole c =

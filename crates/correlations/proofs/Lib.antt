@@ -1,0 +1,12 @@
+pub mod Alone
+pub mod DigitLaws
+pub mod DiagonalLaws
+pub mod ExistLaws
+pub mod FitLaws
+pub mod HoldLaws
+pub mod NameLaws
+pub mod OneLaws
+pub mod PlaceLaws
+pub mod SizeLaws
+pub mod TableLaws
+pub mod TestLaws

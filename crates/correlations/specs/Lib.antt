@@ -1,0 +1,3 @@
+pub mod Correlations
+pub mod Exact
+pub mod Parts
