@@ -37,6 +37,34 @@ CERT g=40 B=1 M=0 N=1
      1 STAX   ABCD  A    1 24:001:00000 m    1.5000000000000000 1.5000000000000000 0E-29
 END
 """
+OUT = b"""%=SNX 2.02 XYZ 24:002:00000 XYZ 00:000:00000 00:000:00000 C 00001 2 S
++FILE/REFERENCE
+ SOFTWARE           snxcomb
+-FILE/REFERENCE
++FILE/COMMENT
+ INPUT in
+-FILE/COMMENT
++SITE/ID
+-SITE/ID
++SOLUTION/EPOCHS
+-SOLUTION/EPOCHS
++SOLUTION/STATISTICS
+ NUMBER OF UNKNOWNS                                  1
+-SOLUTION/STATISTICS
++SOLUTION/ESTIMATE
+     1 STAX   ABCD  A    1 24:001:00000 m    2  .150000000000000E+01 .500000E+00
+-SOLUTION/ESTIMATE
++SOLUTION/APRIORI
+     1 STAX   ABCD  A    1 24:001:00000 m    2  .100000000000000E+01 .000000E+00
+-SOLUTION/APRIORI
++SOLUTION/NORMAL_EQUATION_VECTOR
+     1 STAX   ABCD  A    1 24:001:00000 m    2  .200000000000000E+01
+-SOLUTION/NORMAL_EQUATION_VECTOR
++SOLUTION/NORMAL_EQUATION_MATRIX L
+     1     1   .40000000000000E+01
+-SOLUTION/NORMAL_EQUATION_MATRIX L
+%ENDSNX
+"""
 NO_PIVOT = b"".join(it for it in ONE_STATION.splitlines(True) if not it.startswith(b"     1     1 "))
 PIVOT_LINE = b"snxcomb: pivot stack STAX/ABCD/A/1/24:001:00000\n"
 WORDS_LINE = b"snxcomb: words\n"
@@ -124,8 +152,11 @@ ROWS = [
     # ---- combinations: OUT first, then REPORT
     Row("OUT may not be written", COMBINE, 5, DESK_LINE, before={**PARTS, "out": Locked(b"before"), "report": b"before"}, as_user=True),
     Row("OUT is a folder", COMBINE, 5, DESK_LINE, before={**PARTS, "out": Folder}),
-    Row("the combination's REPORT is a folder", COMBINE, 5, DESK_LINE, before={**PARTS, "report": Folder}, made={"out": b""}),
-    Row("a longer OUT is replaced", COMBINE, 0, before={**PARTS, "out": b"x" * 5000}, made={"out": b"", "report": REPORT}),
+    Row("the combination's REPORT is a folder", COMBINE, 5, DESK_LINE, before={**PARTS, "report": Folder}, made={"out": OUT}),
+    Row("a longer OUT is replaced", COMBINE, 0, before={**PARTS, "out": b"x" * 5000}, made={"out": OUT, "report": REPORT}),
+    Row("OUT may not grow past 100 bytes", COMBINE, 5, DESK_LINE, before=PARTS, made={"out": Beginning(OUT, 100)}, limits={resource.RLIMIT_FSIZE: 100}),
+    Row("OUT is a full device", ["combine", "control", "/dev/full", "report"], 5, DESK_LINE, before=PARTS),
+    Row("OUT to standard output", ["combine", "control", "/dev/stdout", "report"], 0, output=OUT, before=PARTS, made={"report": REPORT}),
     Row("the control file is a folder", COMBINE, 5, DESK_LINE, before={"control": Folder}),
     Row("a listed file is a folder", COMBINE, 5, DESK_LINE, before={"control": CONTROL, "in": Folder}),
     Row("a listed file is too long", COMBINE, 3, b"snxcomb: too long in\n", before={"control": CONTROL, "in": Zeros(LIMIT + 1)}),
@@ -291,7 +322,8 @@ def row_of(case):
 def row_of_combination(case):
     """The run of a combination, with the answer of tools/combine.py."""
     status, line, made = case.answer
-    return Row(case.what, case.words, status, line.encode(), before=case.files, made={name: text.encode() for name, text in made.items()})
+    made = {name: text.encode("latin-1") for name, text in made.items()}
+    return Row(case.what, case.words, status, line.encode(), before=case.files, made=made)
 
 
 # what makes the cases of a group, and the run of a case

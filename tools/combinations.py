@@ -6,9 +6,11 @@
 
 What a run wants is the text of its refusal after 'snxcomb: ', or its report, worked by hand; or nothing, and then
 tools/combine.py alone says what comes. The bounds of each report of a few lines must hold the solution of the exact system, which
-tools/exact.py has in fractions. tools/check_program.py runs the built program over all of them.
+tools/exact.py has in fractions, and each combined file of a few rows must be that system rounded; those of the group 'combined files'
+were worked by hand too, but for the examples. tools/check_program.py runs the built program over all of them.
 """
 
+import difflib
 import math
 import random
 import sys
@@ -21,7 +23,7 @@ import combine
 import control_files
 import covariances as made_covariances
 import exact
-from document_builders import EXAMPLES, NORMAL, ONE_NAME, bare, block, joined, row, strip, whole
+from document_builders import EXAMPLES, NORMAL, ONE_NAME, bare, block, changed, joined, row, strip, whole
 
 WORDS = ["combine", "control", "out", "report"]
 # reports of at most so many lines are compared with the exact solution
@@ -35,6 +37,8 @@ class Run:
     files: dict
     wants: str | None = None
     words: list = field(default_factory=lambda: WORDS)
+    # the combined file that is wanted, if it was worked by hand
+    file: str | None = None
 
     @cached_property
     def answer(self):
@@ -45,8 +49,11 @@ class Run:
         _, line, made = self.answer
         if self.wants is not None and self.wants != made.get("report") and line != f"snxcomb: {self.wants}\n":
             return False
-        report = made.get("report")
-        return report is None or report.count("\n") > MOST_EXACT or exact.holds(self.files, self.words, report)
+        if self.file is not None and self.file != made.get("out"):
+            return False
+        if not made or made[self.words[-1]].count("\n") > MOST_EXACT:
+            return True
+        return exact.holds(self.files, self.words, made[self.words[-1]]) and (len(made) == 1 or exact.is_file(self.files, self.words, made))
 
 
 # ---- builders
@@ -671,6 +678,248 @@ def examples():
     yield Run("the example of a free network without a datum", free, "pivot stack STAY/ZIMM/A/1/24:003:43200", words=["combine", "no-datum.toml", "combined.snx", "report.txt"])
 
 
+# ---- combined files: the worked one, and lines of it that a rule turns
+
+WORKED = """%=SNX 2.02 ABC 24:010:00000 ABC 00:000:00000 00:000:00000 C 00001 2 S
++FILE/REFERENCE
+ SOFTWARE           snxcomb
+-FILE/REFERENCE
++FILE/COMMENT
+ INPUT a
+ INPUT b
+ INPUT c
+-FILE/COMMENT
++SITE/ID
+-SITE/ID
++SOLUTION/EPOCHS
+-SOLUTION/EPOCHS
++SOLUTION/STATISTICS
+ NUMBER OF UNKNOWNS                                  1
+-SOLUTION/STATISTICS
++SOLUTION/ESTIMATE
+     1 STAX   ABCD  A    1 24:001:00000 m    2  .137500000000000E+01 .353553E+00
+-SOLUTION/ESTIMATE
++SOLUTION/APRIORI
+     1 STAX   ABCD  A    1 24:001:00000 m    2  .100000000000000E+01 .000000E+00
+-SOLUTION/APRIORI
++SOLUTION/NORMAL_EQUATION_VECTOR
+     1 STAX   ABCD  A    1 24:001:00000 m    2  .300000000000000E+01
+-SOLUTION/NORMAL_EQUATION_VECTOR
++SOLUTION/NORMAL_EQUATION_MATRIX L
+     1     1   .80000000000000E+01
+-SOLUTION/NORMAL_EQUATION_MATRIX L
+%ENDSNX
+""".splitlines()
+# where the blocks have their lines
+SOFTWARE, INPUTS, SITES_END, EPOCHS_END, UNKNOWNS, ESTIMATED, KNOWN, RIGHT, ELEMENTS = 3, (6, 7, 8), 11, 13, 15, 18, 21, 24, 27
+ABC = '[output]\nagency = "ABC"\ncreated = "24:010:00000"\n'
+
+
+def file_run(what, files, changes, output="", rest="", entries=None):
+    """A run that wants the worked file with other lines in the place of those of some numbers."""
+    entries = list(map(entry, sorted(files))) if entries is None else entries
+    text = joined(changed(WORKED, changes)).decode("latin-1")
+    return Run(what, {**files, "control": control(*entries, head=ABC + output, rest=rest)}, file=text)
+
+
+def header_of(agency="ABC", created="24:010:00000", start="00:000:00000", end="00:000:00000", technique="C", count=1, code=2, content="S"):
+    return f"%=SNX 2.02 {agency} {created} {agency} {start} {end} {technique} {count:05} {code} {content}"
+
+
+def file_of(what, rows, matrix, text, name="a", rest="", code=2, **more):
+    """A run of one file; of each row its columns 8 to 46, its estimate with its deviation, its a priori value and its right side."""
+    head = {1: header_of(count=len(rows), code=code), INPUTS[0]: f" INPUT {name}", INPUTS[1]: [], INPUTS[2]: []}
+    lines = {UNKNOWNS: f" NUMBER OF UNKNOWNS             {len(rows):22}", ELEMENTS: matrix}
+    numbers = list(enumerate(rows, 1))
+    lines[ESTIMATED] = [f"{k:6} {label} {estimate}" for k, (label, estimate, _, _) in numbers]
+    lines[KNOWN] = [f"{k:6} {label} {known:>21} .000000E+00" for k, (label, _, known, _) in numbers]
+    lines[RIGHT] = [f"{k:6} {label} {right:>21}" for k, (label, _, _, right) in numbers]
+    return file_run(what, {name: text}, {**head, **lines}, rest=rest, **more)
+
+
+LABEL = "STAX   ABCD  A    1 24:001:00000 m    2"
+ONE_VALUE = " .100000000000000E+01"
+
+
+def one_of(what, estimate, known, right, element, text, label=LABEL, **more):
+    return file_of(what, [(label, estimate, known, right)], [f"     1     1 {element:>21}"], text, **more)
+
+
+def with_lines(text, *blocks):
+    """The file with blocks before its footer."""
+    return text.replace(b"%ENDSNX\n", joined([line for it in blocks for line in it]) + b"%ENDSNX\n")
+
+
+def sites_in(text, *lines):
+    return with_lines(text, block("SITE/ID", *lines))
+
+
+def epochs_in(text, *lines):
+    return with_lines(text, block("SOLUTION/EPOCHS", *lines))
+
+
+def header_files():
+    worked = file_run("the worked file", THREE, {})
+    assert len(worked.file) == 818
+    yield worked
+    yield file_run("files listed last first, in groups", THREE, {}, entries=[entry("c", group="a"), entry("b"), entry("a", group="a")])
+    texts = {SOFTWARE: [" DESCRIPTION        A sum", " OUTPUT              two ", " CONTACT            x@y.z  ", WORKED[SOFTWARE - 1]]}
+    yield file_run("texts of the reference", THREE, texts, 'contact = "x@y.z  "\noutput = " two "\ndescription = "A sum"\n')
+    yield file_run("one text", THREE, {SOFTWARE: [f" OUTPUT             {'w' * 60}", WORKED[SOFTWARE - 1]]}, f'output = "{"w" * 60}"\n')
+    yield file_run("empty texts", THREE, {}, 'description = ""\noutput = ""\ncontact = ""\n')
+    yield file_run("a text of a blank", THREE, {SOFTWARE: [" CONTACT             ", WORKED[SOFTWARE - 1]]}, 'contact = " "\n')
+    yield file_run("technique and content", THREE, {1: header_of(technique="P", content="E")}, 'technique = "P"\ncontent = "E"\n')
+    for created, said in (("24:010:86400", "24:011:00000"), ("00:000:00000", "00:000:00000"), ("51:001:00001", "51:001:00001"), (" " * 12, "00:000:00000")):
+        run = file_run(f"created at {created}", THREE, {1: header_of(agency="~a1", created=said)})
+        run.files["control"] = run.files["control"].replace(b'"ABC"\ncreated = "24:010:00000"', f'"~a1"\ncreated = "{created}"'.encode())
+        yield run
+    yield one_of("a file of a long name", " .150000000000000E+01 .500000E+00", ONE_VALUE, ".200000000000000E+01", ".40000000000000E+01", THREE["a"], name="n" * 60)
+    capitals = {"B": THREE["b"], "a": THREE["a"], "_": THREE["c"]}
+    yield file_run("names of files byte by byte", capitals, {6: " INPUT B", 7: " INPUT _", 8: " INPUT a"}, entries=[entry("a"), entry("_"), entry("B")])
+
+
+def site_files():
+    a, b, c = THREE.values()
+    lines = [" ABCD  A of a", " WXYZ  A of a, first", " WXYZ A  of a, second", " abcd  A", " ABCD  B of a"]
+    ordered = [" ABCD  A of a", " ABCD  B of a", " BBBB  A of c", " WXYZ  A of a, first", " abcd  A"]
+    yield file_run("sites in several files", {"a": sites_in(a, *lines), "b": b, "c": sites_in(c, " ABCD  A of c", " BBBB  A of c")}, {SITES_END: [*ordered, "-SITE/ID"]})
+    listed = [entry("c"), entry("b"), entry("a")]
+    yield file_run("a site of the file with the least name", {"a": a, "b": sites_in(b, " ABCD  A of b"), "c": sites_in(c, " ABCD  A of c")}, {SITES_END: [" ABCD  A of b", "-SITE/ID"]}, entries=listed, rest='[run]\nreference = "c"\n')
+    long = " ABCD  A".ljust(79, ".")
+    yield file_run("a site's line of 82 columns", {"a": sites_in(a, long + "xyz"), "b": b, "c": c}, {SITES_END: [long + "x", "-SITE/ID"]})
+    yield file_run("blanks at column 80", {"a": sites_in(a, long + " xyz"), "b": b, "c": c}, {SITES_END: [long, "-SITE/ID"]})
+    yield file_run("blanks at a site's end, and a tab first", {"a": sites_in(a, "\tABCD  A x \t "), "b": b, "c": c}, {SITES_END: ["\tABCD  A x", "-SITE/ID"]})
+    yield file_run("bytes that are no letters", {"a": sites_in(a, " ABCD  A M\xe4rz \x01"), "b": b, "c": c}, {SITES_END: [" ABCD  A M\xe4rz \x01", "-SITE/ID"]})
+    yield file_run("sites without a code or a point", {"a": sites_in(a, " ABCD    x", "      A x", "         x"), "b": b, "c": c}, {SITES_END: ["         x", "      A x", " ABCD    x", "-SITE/ID"]})
+
+
+def moments(what, rows, said, start, end):
+    """A run of the three files with these rows of moments."""
+    files = {name: epochs_in(text, *rows[name]) if name in rows else text for name, text in THREE.items()}
+    return file_run(what, files, {1: header_of(start=start, end=end), EPOCHS_END: [*said, "-SOLUTION/EPOCHS"]})
+
+
+NONE = "00:000:00000"
+
+
+def epoch_files():
+    first, second, third, last = "23:365:00000", "24:001:00000", "24:002:00000", "24:003:00000"
+    both = {"a": [f" ABCD  A    1   {second} {last} {NONE}"], "b": [f" ABCD  A    1 P {first} {third} {NONE}"]}
+    yield moments("moments of two files, and a technique that is blank", both, [f" ABCD  A    1   {first} {last} 24:001:43200"], first, last)
+    both = {"b": [f" ABCD  A    1 L {second} {third} {second}", f" ABCD  A 0001 P {first} {second} {first}"], "c": [f" ABCD  A    1 D {third} {last} {last}"]}
+    yield moments("the first technique of the least file, and solutions 1 and 0001", both, [f" ABCD  A    1 L {first} {last} 24:001:43200"], first, last)
+    rows = {"a": [f" ABCD  A    1 P {NONE} {third} {second}"], "b": [f" ABCD  A    1 P {second} {NONE} {second}"]}
+    yield moments("a start and an end that are Never", rows, [f" ABCD  A    1 P {second} {third} 24:001:43200"], second, third)
+    rows = {"a": [f" ABCD  A    1 P {NONE} {third} {second}", f" WXYZ  A    1 P {first} {NONE} {second}", f" WXYZ  B    1 P {NONE} {NONE} {second}"]}
+    said = [f" ABCD  A    1 P {NONE} {third} {NONE}", f" WXYZ  A    1 P {first} {NONE} {NONE}", f" WXYZ  B    1 P {NONE} {NONE} {NONE}"]
+    yield moments("means that are Never", rows, said, first, third)
+    rows = {"a": [f" ABCD  A    1 P {NONE} {NONE} {second}", " ABCD  A    2 P", " ABCD  A"]}
+    said = [f" ABCD  A        {NONE} {NONE} {NONE}", f" ABCD  A    1 P {NONE} {NONE} {NONE}", f" ABCD  A    2 P {NONE} {NONE} {NONE}"]
+    yield moments("all moments are Never", rows, said, NONE, NONE)
+    rows = {"a": [f" ABCD  A    1 P {second} 24:001:00001"], "b": [" ABCD  A    2 P 69:365:86399 70:001:00000", " ABCD  A    3 P 24:001:86399 24:002:00002", " ABCD  A    4 P 51:001:00000 50:365:86399"]}
+    said = [f" ABCD  A    1 P {second} 24:001:00001 {second}", " ABCD  A    2 P 69:365:86399 70:001:00000 69:365:86399", " ABCD  A    3 P 24:001:86399 24:002:00002 24:002:00000", " ABCD  A    4 P 51:001:00000 50:365:86399 00:366:43199"]
+    yield moments("means of half seconds", rows, said, "51:001:00000", "50:365:86399")
+    rows = {"a": [f" ABCD  A    1 P {last} {first} {second}"]}
+    yield moments("an end before its start", rows, [f" ABCD  A    1 P {last} {first} 24:001:43200"], last, first)
+    rows = {"c": [f" b     A   10 P {second} {third}", f" b     A    2 P {second} {third}", f" b     A   1A P {second} {third}", f" b    AB    2 P {second} {third}", f" B       9999 ~ {second} {third}"]}
+    said = [f" B       9999 ~ {second} {third} 24:001:43200", *(f" b    {words} P {second} {third} 24:001:43200" for words in (" A   10", " A   1A", " A    2", "AB    2"))]
+    yield moments("moments in the order of bytes", rows, said, second, third)
+
+
+def row_files():
+    """With 4 for a matrix the corrections are multiples of 10^-13 and the deviations of 10^-6, both rounded down."""
+    five = ".500000E+00"
+    a = THREE["a"]
+    yield file_run("a scale", THREE, {}, rest="[scale]\nSTAX = 3\n")
+    yield file_run("a negative scale", THREE, {}, rest="[scale]\nSTAX = -4\n")
+    yield one_of("another unit, and no solution", f" .150000000000000E+01 {five}", ONE_VALUE, ".200000000000000E+01", ".40000000000000E+01", one("4", "2", name=named("XPO", "----", point="--", solution="----", epoch=NONE), unit=""), label=f"XPO    ---- -- ---- {NONE}      2")
+    yield one_of("a right ascension", " .125000000050000E+01 .500000E-06", ".125000000000000E+01", ".200000000000000E+04", ".40000000000000E+13", one("4E+12", "2E+3", "1.25", name=named("RS_RA")), label=LABEL.replace("STAX ", "RS_RA"))
+    half = f" .500000000000000E+00 {five}"
+    for value, said in (("1E-99", ".100000000000000E-98"), ("-1E-99", "-.100000000000000E-98"), ("9.9999999999999E-100", ".000000000000000E+00"), ("-1E-400", ".000000000000000E+00"), ("0", ".000000000000000E+00")):
+        yield one_of(f"an a priori value of {value}", half, said, ".200000000000000E+01", ".40000000000000E+01", one("4", "2", value))
+    yield one_of("all is zero but the matrix", f" .000000000000000E+00 {five}", ".000000000000000E+00", ".000000000000000E+00", ".40000000000000E+01", one("4", "0", "0"))
+    yield one_of("a great a priori value that is negative", f"-.999999999999500E+12 {five}", "-.100000000000000E+13", ".200000000000000E+01", ".40000000000000E+01", one("4", "2", "-1E+12"))
+    yield one_of("halves away from zero", " .734567890123455E+00 .499999E+00", ".123456789012346E+01", "-.200000000000001E+01", ".40000000000001E+01", one("4.00000000000005", "-2.000000000000005", "1.234567890123455"))
+    yield one_of("digits that carry", " .150000000000000E+01 .316227E+00", ONE_VALUE, ".500000000000000E+01", ".10000000000000E+02", one("9.99999999999995", "5"))
+    yield one_of("the middle of a negative right side", f" .999999999999900E+00 {five}", ONE_VALUE, "-.200000000000000E-17", ".40000000000000E+01", one("4", "-1.5E-18"))
+    yield one_of("the middle of a positive right side", f" .100000000000000E+01 {five}", ONE_VALUE, ".100000000000000E-17", ".40000000000000E+01", one("4", "1.5E-18"))
+    yield one_of("the middle at a scale", f" .999999999999900E+00 {five}", ONE_VALUE, "-.200000000000000E-14", ".40000000000000E+01", one("4", "-1.5E-15"), rest="[scale]\nSTAX = 3\n")
+    yield one_of("the middle at a negative scale", f" .100000000000000E+01 {five}", ONE_VALUE, ".100000000000000E-21", ".40000000000000E+01", one("4", "1.5E-22"), rest="[scale]\nSTAX = -4\n")
+    yield one_of("a great deviation", " .500001000000000E+10 .500000E+05", ".100000000000000E+05", ".200000000000000E+01", ".40000000000000E-09", one("4E-10", "2", "1E+04"))
+    yield one_of("a weight", f" .150000000000000E+01 {five}", ONE_VALUE, ".200000000000000E+01", ".40000000000000E+01", one("8", "4"), entries=[entry("a", weight="0.5")])
+    yield one_of("a deviation is rounded down", " .100000000000000E+01 .707106E+00", ONE_VALUE, ".000000000000000E+00", ".20000000000000E+01", one("2", "0"))
+    moved = {"a": one("4", "2", "1"), "b": one("4", "2", "2"), "c": one("1E-99", "0", "2")}
+    common = {ESTIMATED: f"     1 {LABEL}  .200000000000000E+01 .353553E+00", RIGHT: f"     1 {LABEL}  .800000000000000E+01"}
+    yield file_run("common a priori values", moved, common)
+    other = {KNOWN: f"     1 {LABEL}  .200000000000000E+01 .000000E+00", RIGHT: f"     1 {LABEL}  .000000000000000E+00"}
+    yield file_run("those of a reference", moved, {**common, **other}, rest='[run]\nreference = "b"\n')
+    yield one_of("a solution without its constraint", " .350000000000000E+01 .500000E+00", ONE_VALUE, ".100000000000000E+02", ".40000000000000E+01", estimated({STAX: "1"}, {STAX: "3"}, {(STAX, STAX): "5"}, {(STAX, STAX): "1"}))
+
+
+def matrix_files():
+    """Seven rows with a matrix of two blocks; and rows of a datum's sites."""
+    names = [named(code=f"{letter}BCD") for letter in "ABCDEFG"]
+    labels = [LABEL.replace("ABCD", dict(name)["code"]) for name in names]
+    values = [(f" .1{'0' * 14}E+01", f" .1{'0' * 14}E+01", f" .{'0' * 15}E+00")] * 7
+    # 5 and -3 at the first and the last row, which have 5, 3 over 16 as inverse; 4 at the others
+    deviations = [".559016", *[".500000"] * 5, ".559016"]
+    rows = [(label, f"{estimate} {deviation}E+00", known, right) for label, deviation, (estimate, known, right) in zip(labels, deviations, values)]
+    rows[1] = labels[1], " .150000000000000E+01 .500000E+00", ONE_VALUE, " .200000000000000E+01"
+    rows[2] = labels[2], " .500000000000000E+00 .500000E+00", ONE_VALUE, "-.200000000000000E+01"
+    zero, four, five, three = f"{' ' * 3}.{'0' * 14}E+00", f"{' ' * 3}.4{'0' * 13}E+01", f"{' ' * 3}.5{'0' * 13}E+01", f"{' ' * 2}-.3{'0' * 13}E+01"
+    lines = [
+        f"     1     1{five}",
+        f"     2     1{zero}{four}",
+        f"     3     1{zero}{zero}{four}",
+        f"     4     1{zero}{zero}{zero}",
+        f"     4     4{four}",
+        f"     5     1{zero}{zero}{zero}",
+        f"     5     4{zero}{four}",
+        f"     6     1{zero}{zero}{zero}",
+        f"     6     4{zero}{zero}{four}",
+        f"     7     1{three}{zero}{zero}",
+        f"     7     4{zero}{zero}{zero}",
+        f"     7     7{five}",
+    ]
+    matrix = {(name, name): "4" for name in names[1:6]} | {(names[0], names[0]): "5", (names[0], names[6]): "-3", (names[6], names[6]): "5"}
+    backwards = list(reversed(names))
+    text = neq(dict.fromkeys(names, "1"), {name: {names[1]: "2", names[2]: "-2"}.get(name, "0") for name in backwards}, matrix)
+    yield file_of("rows of one to seven columns", rows, lines, text)
+    # elements that are no whole number of units
+    names = [STAX, STAY, STAZ]
+    rows = [(LABEL.replace("STAX", dict(name)["kind"]), f"{ONE_VALUE} .500000E+00", ONE_VALUE, values[0][2]) for name in names]
+    lines = [f"     1     1{four}", f"     2     1   .1{'0' * 13}E-17{four}", f"     3     1  -.2{'0' * 13}E-17{zero}{four}"]
+    text = neq(dict.fromkeys(names, "1"), dict.fromkeys(names, "0"), {(name, name): "4" for name in names} | {(STAX, STAY): "1.5E-18", (STAX, STAZ): "-1.5E-18"})
+    yield file_of("the middles of elements", rows, lines, text)
+    # a datum of one site: 4 is added to the diagonal of three of five rows
+    names = [STAX, named(solution="2"), STAY, STAZ, named("XPO")]
+    labels = [f"{dict(name)['kind']:6} ABCD  A    {dict(name).get('solution', 1)} 24:001:00000 m    2" for name in names]
+    held, free = " .125000000000000E+01 .353553E+00", " .150000000000000E+01 .500000E+00"
+    rows = [(f"{label[:-1]}{code}", held if code == 1 else free, ONE_VALUE, " .200000000000000E+01") for label, code in zip(labels, (1, 2, 1, 1, 2))]
+    lines = [f"     1     1{four}", f"     2     1{zero}{four}", f"     3     1{zero}{zero}{four}", f"     4     1{zero}{zero}{zero}", f"     4     4{four}", f"     5     1{zero}{zero}{zero}", f"     5     4{zero}{four}"]
+    text = neq(dict.fromkeys(names, "1"), dict.fromkeys(names, "2"), {(name, name): "4" for name in names})
+    yield file_of("a datum of one site", rows, lines, text, rest=datum("ABCD", translation="0.5"), code=1)
+    yield file_of("its solution with zeros", rows, lines, text, rest=datum("ABCD", translation="0.5", solution="0001"), code=1)
+
+
+def example_files():
+    """Each example's files, and its combined file combined again."""
+    for folder in ("combination", "covariances", "free-network", "solutions"):
+        files = {path.name: path.read_bytes() for path in sorted((EXAMPLES / folder).iterdir())}
+        run = Run(f"the combined file of the example {folder}", files, words=["combine", "control.toml", "out", "report"])
+        yield run
+        rest = files["control.toml"].decode()
+        rest = "\n".join(f"[{part}" for part in rest.split("\n[") if part.startswith(("datum]", "scale]")))
+        made = run.answer[2]["out"].encode("latin-1")
+        yield held(f"the combined file of the example {folder} combined again", f"{rest}\n", None, made=made)
+    yield held("a combined file beside one of its parts", "", None, a=THREE["a"], made=joined(WORKED))
+
+
+def combined_files():
+    for make in (header_files, site_files, epoch_files, row_files, matrix_files, example_files):
+        yield from make()
+
+
 def control_texts():
     for name, text, wants in control_files.CASES:
         yield Run(f"control file: {name}", {"control": text}, wants)
@@ -691,6 +940,7 @@ GROUPS = {
     "many names": sizes,
     "combinations made by chance": chances,
     "examples of combinations": examples,
+    "combined files": combined_files,
     "control files": control_texts,
 }
 
@@ -706,7 +956,10 @@ def main():
     forms = list(alike())
     wrong += [chosen[0] for chosen in (forms[::2], forms[1::2]) if not are_alike(chosen)]
     for run in wrong:
-        print(f"FAILED  {run.what}: {run.answer}, not {run.wants!r}")
+        status, line, made = run.answer
+        print(f"FAILED  {run.what}: {status} {line}{made.get('report', '')}, not {run.wants!r}")
+        if run.file is not None:
+            print("\n".join(difflib.unified_diff(run.file.splitlines(), made.get("out", "").splitlines(), "wanted", "made", lineterm="", n=0)))
     print(f"{len(runs) - len(wrong)} passed, {len(wrong)} failed")
     return 1 if wrong else 0
 

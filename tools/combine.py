@@ -1,15 +1,17 @@
 #!/usr/bin/env python3
 """Computes what `snxcomb combine` answers, apart from the program.
 
-    combine.py CONTROL       writes the report of a combination, or the line of its refusal; the files are taken from the folder
-    combine.py solve FILE    the same of one file
+    combine.py CONTROL         writes the report of a combination, or the line of its refusal; the files are taken from the folder
+    combine.py file CONTROL    writes its combined file, or the line of its refusal
+    combine.py solve FILE      the report of one file
 
-It is written from the rules, not from the program's code: tools/control.py reads the control file, tools/sinex.py the files, and
-tools/solve.py has the rules from a stack to its report.
+It is written from the rules, not from the program's code: tools/control.py reads the control file, tools/sinex.py the files,
+tools/solve.py has the rules from a stack to its report, and tools/combined_file.py those of the combined file.
 """
 
 import sys
 import apriori
+import combined_file
 import control
 import covariances
 import datum
@@ -170,9 +172,9 @@ def add_datum(stack, given):
         raise Refusal(6, f"range stack {stack.names[passed.args[0]].text()} {stack.names[passed.args[1]].text()}") from None
 
 
-def report_of(stack):
+def solution_of(stack):
     try:
-        return solve.report(stack)
+        return solve.Solution(stack)
     except solve.Refused as refusal:
         cause, *places = refusal.args
         texts = [stack.names[places[0]].text(), *map(str, places[1:])]
@@ -182,23 +184,26 @@ def report_of(stack):
 
 
 def combined(found, files):
-    """The report of the files of a control."""
+    """The report of the files of a control, and their combined file where the control has a header for it."""
     inputs = read_inputs(files, found.files)
     values = common_values(inputs, found.reference)
     parts = [(plan, shift(plan, recover(plan, document, found.scales), values)) for plan, document in inputs]
     stack = Ordered(stack_groups(parts))
+    free = [list(row) for row in stack.table]
     if found.datum:
         add_datum(stack, found.datum)
-    return report_of(stack)
+    solution = solution_of(stack)
+    return solve.report(stack, solution), found.output and combined_file.text_of(found, inputs, free, stack, solution)
 
 
 def outputs_of(words, files):
-    """What a command writes, by name."""
+    """What a command writes, by name: texts of one byte for each letter."""
     if words[:1] == ["solve"] and len(words) == 3 and words[1] != words[2]:
-        return {words[2]: combined(control.alone(words[1]), files)}
+        return {words[2]: combined(control.alone(words[1]), files)[0]}
     if words[:1] == ["combine"] and len(set(words[1:])) == len(words[1:]) == 3:
         found = read_control(files, words[1], words[2:])
-        return {words[2]: "", words[3]: combined(found, files)}
+        report, text = combined(found, files)
+        return {words[2]: text, words[3]: report}
     raise Refusal(2, "words")
 
 
@@ -229,17 +234,18 @@ def files_in(names):
 
 
 def main():
+    name = sys.argv[-1]
+    files = files_in([name])
     if sys.argv[1] == "solve":
-        status, said = solved(sys.argv[2], files_in(sys.argv[2:])[sys.argv[2]])
+        status, said = solved(name, files[name])
     else:
-        files = files_in(sys.argv[1:])
         try:
-            files |= files_in(plan.name for plan in control.read_control(files[sys.argv[1]]).files)
+            files |= files_in(plan.name for plan in control.read_control(files[name]).files)
         except control.ControlFault:
             pass
-        status, line, made = verdict(["combine", sys.argv[1], "out", "report"], files)
-        said = made.get("report", line)
-    sys.stdout.write(said)
+        status, line, made = verdict(["combine", name, "out", "report"], files)
+        said = made.get("out" if sys.argv[1] == "file" and len(sys.argv) > 2 else "report", line)
+    sys.stdout.buffer.write(said.encode() if status else said.encode("latin-1"))
     return status
 
 

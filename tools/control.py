@@ -45,10 +45,24 @@ class Datum:
 
 
 @dataclass
+class Output:
+    """What stands in the combined file's header and reference."""
+
+    agency: str
+    created: tuple
+    technique: str = "C"
+    content: str = "S"
+    description: str = ""
+    output: str = ""
+    contact: str = ""
+
+
+@dataclass
 class Control:
-    """What a control file says; of the header only what a run needs by now."""
+    """What a control file says."""
 
     files: list
+    output: Output | None = None
     datum: Datum | None = None
     reductions: list = field(default_factory=list)
     scales: dict = field(default_factory=dict)
@@ -200,12 +214,12 @@ def parameter(texts):
 
 def output_of(table):
     only_keys(table, "output", "agency", "created", "technique", "content", "description", "output", "contact")
-    given(table, "output", "agency", is_text, bytes_between(3, 3, 33, 126), must=True)
-    given(table, "output", "created", is_text, created, must=True)
-    given(table, "output", "technique", is_text, letter)
-    given(table, "output", "content", is_text, letter)
-    for key in ("description", "output", "contact"):
-        given(table, "output", key, is_text, bytes_between(0, 60, 32, 126))
+    agency = given(table, "output", "agency", is_text, bytes_between(3, 3, 33, 126), must=True)
+    (at,) = given(table, "output", "created", is_text, created, must=True)
+    technique = given(table, "output", "technique", is_text, letter, default="C")
+    content = given(table, "output", "content", is_text, letter, default="S")
+    printable, keys = bytes_between(0, 60, 32, 126), ("description", "output", "contact")
+    return Output(agency, at, technique, content, *(given(table, "output", key, is_text, printable, default="") for key in keys))
 
 
 def run_of(table):
@@ -287,7 +301,7 @@ def read_control(text):
     datum = given(top, "", "datum", is_table, lambda it: (it,))
     reduce = given(top, "", "reduce", is_list_of(is_table), lambda it: it, default=[])
     scale = given(top, "", "scale", is_table, lambda it: (it,) if len(it) <= 60 else None, default=({},))[0]
-    output_of(output)
+    output = output_of(output)
     reference, workers = run_of(run)
     plans = files_of(files)
     datum = datum_of(datum[0]) if datum else None
@@ -298,7 +312,7 @@ def read_control(text):
     for k, (place, named, _) in enumerate(reductions):
         known = place == "end" or named in (names if place == "file" else groups)
         demand(known, "value", f"reduce.{k}.of")
-    return Control(plans, datum, reductions, scales, workers, reference or "")
+    return Control(plans, output, datum, reductions, scales, workers, reference or "")
 
 
 if __name__ == "__main__":

@@ -1,4 +1,4 @@
-"""Solves the exact system of a small combination in fractions, and looks whether a report's bounds hold it.
+"""Solves the exact system of a small combination in fractions, and looks whether a report's bounds hold it and a combined file has it.
 
 No interval of tools/combine.py is used. Which value is a name's common one, which blocks of a file count, and the coefficients of
 the datum's rows, it has from tools/apriori.py, tools/recovery.py and tools/datum.py, so a wrong choice of these shows in other rows
@@ -10,8 +10,10 @@ from fractions import Fraction
 import apriori
 import combine
 import control
+import covariances
 import datum
 import recovery
+import sinex
 
 
 def summed(files, found):
@@ -68,3 +70,42 @@ def holds(files, words, report):
         if not lower <= value + away <= upper:
             return False
     return True
+
+
+def is_near(printed, value, digits, width=0):
+    """Whether a number is another with so many digits, up to twice the half of the last one and a width."""
+    return abs(printed - value) <= abs(value) * Fraction(10) ** (1 - digits) + width
+
+
+def is_file(files, words, made):
+    """Whether the combined file is read without a bad line, and has the names, values, matrix and right side of the exact system.
+
+    Near is what rounding leaves, and the width of enclosed inverses of covariances beside the greatest element.
+    """
+    found = control.read_control(files[words[1]])
+    document = sinex.read_document(made[words[2]].encode("latin-1"))
+    rows = [document[block].rows for block in (sinex.ESTIMATE, sinex.APRIORI, sinex.VECTOR)]
+    names, common, matrix, right = summed(files, found)
+    x = solution(matrix, right)
+    bounds = [[Fraction(text) for text in line[44:].split()[:2]] for line in made[words[3]].splitlines()[2:-1]]
+    found.datum = None
+    free = summed(files, found)[2]
+    given = document[sinex.NORMAL_MATRIX].elements
+    wide = max(abs(value) for row in free for value in row) / 10**12
+    return (
+        all([row.name for row in block] == names for block in rows)
+        and all(is_near(row.value, value, 15, Fraction(1, 10**99)) for row, value in zip(rows[1], common))
+        and all(is_near(row.value, value + away, 15, high - low) for row, value, away, (low, high) in zip(rows[0], common, x, bounds))
+        and all(is_near(row.value, value, 15, 1000 * wide) for row, value in zip(rows[2], right))
+        and all(is_near(given.get((a, b), 0), free[i][j], 14, wide) for i, a in enumerate(names) for j, b in enumerate(names))
+        and is_deviation(rows[0], matrix)
+    )
+
+
+def is_deviation(rows, matrix):
+    """Whether the deviations are the roots of the inverse's diagonal, where there are few."""
+    if len(rows) > 12:
+        return True
+    places = range(len(rows))
+    inverse = covariances.exact_inverse({(i, j): matrix[i][j] for i in places for j in places}, list(places))
+    return all(is_near(row.deviation**2, inverse[i, i], 5) for i, row in enumerate(rows))

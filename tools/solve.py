@@ -234,7 +234,7 @@ def product(w, v):
 
 
 def printed(x0, e, a, d, y, w):
-    """Lower, upper, residual and place of each row; e has the exponents with the scale exponents of the types added."""
+    """Lower, upper, residual and place of each row, and the estimates; e has the exponents with the types' scale exponents added."""
     n = len(x0)
     rows, estimates = [], []
     for i in range(n):
@@ -257,7 +257,7 @@ def printed(x0, e, a, d, y, w):
         if running > 2**65:
             raise Refused("range", i, i)
     residuals = [size(less(d[i], total(product(v, z[j]) for j, v in nonzero(a[i])))) for i in range(n)]
-    return [(*rows[i], residuals[i], e[i] - 30) for i in range(n)]
+    return [(*rows[i], residuals[i], e[i] - 30) for i in range(n)], estimates
 
 
 def bound(v):
@@ -271,14 +271,21 @@ def label(number, name, unit):
     return b" ".join([b"%6d" % number, *texts]).decode()
 
 
-def report(stack):
-    e, a, d = working(stack.table, stack.right)
-    g, r = pilot(a)
-    y = start_vector(a, d, g, r)
-    b, m, w = certificate(a, d, g, r, y)
-    lines = ["SNXCOMB BOUNDS 1", f"CERT g={g} B={b} M={m} N={len(a)}"]
-    powers = [i + t for i, t in zip(e, stack.scales)]
-    for k, (lower, upper, residual, place) in enumerate(printed(stack.x0, powers, a, d, y, w)):
+class Solution:
+    """What the rules make of a stack: the exponents with the scale exponents added, the pilot, the certificate, the printed numbers."""
+
+    def __init__(self, stack):
+        e, a, d = working(stack.table, stack.right)
+        self.powers = [i + t for i, t in zip(e, stack.scales)]
+        self.g, self.inverse = pilot(a)
+        y = start_vector(a, d, self.g, self.inverse)
+        self.b, self.m, w = certificate(a, d, self.g, self.inverse, y)
+        self.rows, self.estimates = printed(stack.x0, self.powers, a, d, y, w)
+
+
+def report(stack, solution):
+    lines = ["SNXCOMB BOUNDS 1", f"CERT g={solution.g} B={solution.b} M={solution.m} N={len(solution.rows)}"]
+    for k, (lower, upper, residual, place) in enumerate(solution.rows):
         lines.append(f"{label(k + 1, stack.names[k], stack.units[k])} {bound(lower)} {bound(upper)} {residual}E{place}")
     return "\n".join(lines + ["END", ""])
 

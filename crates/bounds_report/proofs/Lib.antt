@@ -1,4 +1,5 @@
 pub mod AlonePrinted
+pub mod DeviationLaws
 pub mod DifferenceLaws
 pub mod EndLaws
 pub mod Law

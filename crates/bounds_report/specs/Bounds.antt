@@ -2,6 +2,7 @@
 --
 -- A system, its solutions and its residuals are in the parameters' own units. Fractions are compared by cross-multiplication: no scale,
 -- no interval and no rounding occurs in them. Printed numbers are in units of 10^-16, a printed residual in units of ten to its place.
+-- Nothing is promised of a printed deviation.
 -- Source: the normal equation N (x - x0) = b of Brockmann 1997, and the enclosure test of Rump 2010.
 use Rattle.std.specs.Prelude.{◌≡◌, ◌≤◌, ◌<◌, ◌*◌, ◌^◌, ℕ, ℤ, pos, ◌+ℤ◌, ◌-ℤ◌, ◌*ℤ◌, ◌≤ℤ◌, unsigned_abs}
 use Rattle.decimal_e.specs.Decimals.{Decimal}

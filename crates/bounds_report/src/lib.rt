@@ -1,9 +1,10 @@
-//! The numbers that are printed of each unknown: bounds between which its value lies, an estimate with 15 digits, and what the
-//! estimates leave of the normal equations.
+//! The numbers that are printed of each unknown: bounds between which its value lies, an estimate with 15 digits, what the
+//! estimates leave of the normal equations, and a standard deviation by the approximate inverse.
 #![tactic(auto)]
 
 use thiserror::Error;
 
+mod deviations;
 mod differences;
 mod ends;
 mod intervals;

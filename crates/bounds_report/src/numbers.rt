@@ -13,4 +13,8 @@ pub struct Printed {
     pub residual: u128,
     /// The power of ten of the residual's unit.
     pub place: i32,
+    /// The standard deviation of the parameter, by the approximate inverse, in units of ten to `deviation_place`. It isn't certified.
+    pub deviation: u128,
+    /// The power of ten of the deviation's unit.
+    pub deviation_place: i32,
 }

@@ -2,13 +2,15 @@
 
 ghost use Rattle.std.specs.Prelude.{◌≡◌, ◌≤◌, ◌<◌, ◌^◌, pos, negsuc, ◌≤ℤ◌, unsigned_abs};
 ghost use Rattle.decimal_e.specs.Fractions.{IsAtMost};
+ghost use Rattle.enclosures.specs.Pilots.{pilot_entry};
 ghost use Rattle.bounds_report.specs.Rows.{AreRows, row_count, power_at, apriori_at, vector_at, radius_at};
 
 use decimal_e::Dec;
+use enclosures::Pilot;
 use std::marker::Model;
 
 /// Row by row the exponents of the working table, the scale exponents of the parameters, the a priori values, the start vector and
-/// the radii.
+/// the radii; and the pilot.
 #[derive(Drop)]
 pub struct Rows<'a> {
     exponents: &'a [i32],
@@ -16,6 +18,7 @@ pub struct Rows<'a> {
     apriori: &'a [Dec],
     vector: &'a [i128],
     radii: &'a [u128],
+    pilot: &'a Pilot,
 }
 
 impl<'a> Model for Rows<'a> {
@@ -23,22 +26,23 @@ impl<'a> Model for Rows<'a> {
 
     ghost Value = { RowLists };
 
-    ghost view = { λ r. record { exponents = r.exponents.now; scales = r.scales.now; apriori = r.apriori.now; vector = r.vector.now; radii = r.radii.now } };
+    ghost view = { λ r. record { exponents = r.exponents.now; scales = r.scales.now; apriori = r.apriori.now; vector = r.vector.now; radii = r.radii.now; pilot = r.pilot.now } };
 
-    ghost invariant = { λ r. AreRows (record { exponents = r.exponents.now; scales = r.scales.now; apriori = r.apriori.now; vector = r.vector.now; radii = r.radii.now }) };
+    ghost invariant = { λ r. AreRows (record { exponents = r.exponents.now; scales = r.scales.now; apriori = r.apriori.now; vector = r.vector.now; radii = r.radii.now; pilot = r.pilot.now }) };
 }
 
 impl<'a> Rows<'a> {
-    /// The rows of five lists.
+    /// The rows of five lists and a pilot.
     pub fn new(
         exponents: &'a [i32],
         scales: &'a [i32],
         apriori: &'a [Dec],
         vector: &'a [i128],
         radii: &'a [u128],
+        pilot: &'a Pilot,
     ) -> Rows<'a>
-        requires { AreRows (record { exponents = exponents.now; scales = scales.now; apriori = apriori.now; vector = vector.now; radii = radii.now }) }
-        ensures { result ≡ record { exponents = exponents.now; scales = scales.now; apriori = apriori.now; vector = vector.now; radii = radii.now } }
+        requires { AreRows (record { exponents = exponents.now; scales = scales.now; apriori = apriori.now; vector = vector.now; radii = radii.now; pilot = pilot.now }) }
+        ensures { result ≡ record { exponents = exponents.now; scales = scales.now; apriori = apriori.now; vector = vector.now; radii = radii.now; pilot = pilot.now } }
     {
         Rows {
             exponents,
@@ -46,6 +50,7 @@ impl<'a> Rows<'a> {
             apriori,
             vector,
             radii,
+            pilot,
         }
     }
 
@@ -96,5 +101,22 @@ impl<'a> Rows<'a> {
     {
         let radii = self.radii;
         radii[i]
+    }
+
+    /// The scale of the pilot.
+    pub fn scale(&self) -> u32
+        ensures value { result ≡ self.now.pilot.g }
+        ensures most { result ≤ 50 }
+    {
+        self.pilot.g()
+    }
+
+    /// The number of the pilot's diagonal in a row.
+    pub fn diagonal(&self, i: usize) -> i64
+        requires { i < row_count self.now }
+        ensures value { result ≡ pilot_entry self.now.pilot i i }
+        ensures bound { unsigned_abs result ≤ 2 ^ 50 }
+    {
+        self.pilot.entry(i, i)
     }
 }

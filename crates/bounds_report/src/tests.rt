@@ -27,11 +27,13 @@ struct Row {
     scale: i32,
 }
 
-// Two rows, and the element between them.
+// Two rows and the element between them, the pilot's scale, and its diagonal.
 #[derive(Clone, Copy)]
 struct Pair {
     rows: [Row; 2],
     coupling: i128,
+    g: u32,
+    diagonal: [i64; 2],
 }
 
 const HALF: Row = Row {
@@ -40,6 +42,16 @@ const HALF: Row = Row {
     apriori: 10_000,
     start: 5_000_000_000_000,
     radius: 0,
+    scale: 0,
+};
+
+// Its standard deviation is the root of 1/8.
+const EIGHTH: Row = Row {
+    matrix: 8_000_000_000_000_000_000,
+    vector: 1_000_000_000_000_000_000,
+    apriori: 0,
+    start: 1_250_000_000_000,
+    radius: 1,
     scale: 0,
 };
 
@@ -69,16 +81,21 @@ const THIRD_NUMBERS: Printed = Printed {
     upper: 3_333_333_333_335_000,
     residual: 10_000_000_000_000_000,
     place: -29,
+    deviation: 577_350,
+    deviation_place: -6,
 };
 
 // Pairs with their numbers. The first is worked by hand. The others were computed apart from the program, by exact fractions: the
 // working table, start vector and radii in units of 10^-(12 + e + t), as tools/solve.py computes them for t = 0, with e + t for e. In
-// the third pair e + t is -13 and 17.
-const PRINTED: [(Pair, [Printed; 2]); 4] = [
+// the third pair e + t is -13 and 17, and the numbers of the diagonal are the greatest that a pilot has, and one below 0. The others'
+// are those of the inverse, to nearest.
+const PRINTED: [(Pair, [Printed; 2]); 5] = [
     (
         Pair {
             rows: [HALF, THIRD],
             coupling: 0,
+            g: 40,
+            diagonal: [31_691_265_005_706, 42_255_020_007_608],
         },
         [
             Printed {
@@ -87,6 +104,8 @@ const PRINTED: [(Pair, [Printed; 2]); 4] = [
                 upper: 15_000_000_000_000_000,
                 residual: 0,
                 place: -29,
+                deviation: 500_000,
+                deviation_place: -6,
             },
             THIRD_NUMBERS,
         ],
@@ -112,6 +131,8 @@ const PRINTED: [(Pair, [Printed; 2]); 4] = [
                 },
             ],
             coupling: 1_000_000_000_000_000_000,
+            g: 40,
+            diagonal: [34_572_289_097_134, 46_096_385_462_845],
         },
         [
             Printed {
@@ -120,6 +141,8 @@ const PRINTED: [(Pair, [Printed; 2]); 4] = [
                 upper: 12_320_678_901_260_000_000,
                 residual: 72_839_506_395_080_000_000_000_000_000,
                 place: -33,
+                deviation: 522_232,
+                deviation_place: -2,
             },
             Printed {
                 estimate: 12_345_007_777_777_800,
@@ -127,6 +150,8 @@ const PRINTED: [(Pair, [Printed; 2]); 4] = [
                 upper: 12_345_007_777_777_778,
                 residual: 145_679_012_901_230_000_000_000_000_000,
                 place: -23,
+                deviation: 603_022,
+                deviation_place: -12,
             },
         ],
     ),
@@ -151,6 +176,8 @@ const PRINTED: [(Pair, [Printed; 2]); 4] = [
                 },
             ],
             coupling: -2,
+            g: 0,
+            diagonal: [1 << 50, -1],
         },
         [
             Printed {
@@ -159,6 +186,8 @@ const PRINTED: [(Pair, [Printed; 2]); 4] = [
                 upper: 300_615_000_000_000_000_000,
                 residual: 2_153_000_000_000_000_000,
                 place: -43,
+                deviation: 3_125_000_000_000,
+                deviation_place: 8,
             },
             Printed {
                 estimate: -69_999_999_999_884_700,
@@ -166,6 +195,8 @@ const PRINTED: [(Pair, [Printed; 2]); 4] = [
                 upper: -69_999_999_999_884_702,
                 residual: 19_637_278_452_992_103_372_000_000_000_000_000,
                 place: -13,
+                deviation: 0,
+                deviation_place: -22,
             },
         ],
     ),
@@ -173,6 +204,8 @@ const PRINTED: [(Pair, [Printed; 2]); 4] = [
         Pair {
             rows: [FAR, THIRD],
             coupling: 0,
+            g: 30,
+            diagonal: [72_759_576_142, 41_264_667_976],
         },
         [
             Printed {
@@ -181,6 +214,28 @@ const PRINTED: [(Pair, [Printed; 2]); 4] = [
                 upper: 1_234_567_890_120_005_000_000_000_000,
                 residual: 85_070_591_730_234_620_000_000_000_000_000,
                 place: -23,
+                deviation: 766_646,
+                deviation_place: -12,
+            },
+            THIRD_NUMBERS,
+        ],
+    ),
+    (
+        Pair {
+            rows: [EIGHTH, THIRD],
+            coupling: 0,
+            g: 40,
+            diagonal: [15_845_632_502_853, 42_255_020_007_608],
+        },
+        [
+            Printed {
+                estimate: 1_250_000_000_000_000,
+                lower: 1_249_999_999_999_000,
+                upper: 1_250_000_000_001_000,
+                residual: 0,
+                place: -29,
+                deviation: 353_553,
+                deviation_place: -6,
             },
             THIRD_NUMBERS,
         ],
@@ -203,6 +258,8 @@ const REFUSED: [(Pair, usize); 3] = [
                 THIRD,
             ],
             coupling: 0,
+            g: 0,
+            diagonal: [0, 0],
         },
         0,
     ),
@@ -210,6 +267,8 @@ const REFUSED: [(Pair, usize); 3] = [
         Pair {
             rows: [Row { scale: 0, ..FAR }, THIRD],
             coupling: 0,
+            g: 0,
+            diagonal: [0, 0],
         },
         0,
     ),
@@ -227,6 +286,8 @@ const REFUSED: [(Pair, usize); 3] = [
                 },
             ],
             coupling: 0,
+            g: 0,
+            diagonal: [0, 0],
         },
         1,
     ),
@@ -269,7 +330,8 @@ fn enclosed(alloc: Global, pair: &Pair) -> Option<Enclosed>
     ensures { IfSome result (λ e. e.pilot.size ≡ 2) }
 {
     let [first, second] = pair.rows;
-    let pilot = Pilot::from_entries(0, 2, [0, 0, 0, 0].to_vec(alloc).ok()?)?;
+    let [one, two] = pair.diagonal;
+    let pilot = Pilot::from_entries(pair.g, 2, [one, 0, 0, two].to_vec(alloc).ok()?)?;
     let y = two_numbers(alloc, first.start, second.start)?;
     let w = [first.radius.min(1 << 97), second.radius.min(1 << 97)]
         .to_vec(alloc)

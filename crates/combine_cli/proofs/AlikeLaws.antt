@@ -1,5 +1,5 @@
 -- Alike controls are admitted together, and give the same texts.
-use Rattle.std.proofs.Common.{◌≡◌, ◌∙◌, ◌++◌, ◌∷◌, ℕ, Bool, true, false, cond, List, [], map, append-nil, append_assoc, Option, Some, None, Ok, refl, ap, sym, subst}
+use Rattle.std.proofs.Common.{◌≡◌, ◌∙◌, ◌++◌, ◌∷◌, ℕ, Bool, true, false, cond, List, [], map, append-nil, append_assoc, Option, Some, None, Result, Ok, Err, refl, ap, sym, subst}
 use Rattle.std.specs.Prelude.{All}
 use Rattle.std.specs.List.{AllByRecursion, filter, find, flat_map}
 use Rattle.std.specs.Str.{bytes_eq}
@@ -12,17 +12,22 @@ use Rattle.decimal_e.specs.Decimals.{Decimal}
 use Rattle.param_ids.specs.Tables.{ScaleMap}
 use Rattle.snx_rows.specs.declared.rows.Row.{Row}
 use Rattle.snx_blocks.specs.Documents.{PlainDoc}
-use Rattle.control_doc.specs.Plain.{PlainPlan, PlainDatum, PlainReduction, PlainControl}
+use Rattle.control_doc.specs.Plain.{PlainPlan, PlainOutput, PlainDatum, PlainReduction, PlainControl}
 use Rattle.neq_stack.specs.Neqs.{PlainNeq, IsSound}
 use Rattle.neq_stack.specs.Stacks.{IsStackOf}
 use Rattle.file_recovery.specs.Recovery.{IsRecovered}
 use Rattle.apriori_shift.specs.Common.{IsCommon}
+use Rattle.bounds_report.specs.declared.numbers.Printed.{Printed}
+use Rattle.stack_rules.specs.Rules.{Numbers}
+use Rattle.site_merge.specs.Merged.{PlainSites, IsMerge}
+use Rattle.snx_write.specs.Combined.{combined_text}
+use Rattle.refusal_lines.specs.declared.refusal.Refusal.{Refusal}
 use Rattle.run_inputs.specs.Words.{CombinedFiles}
 use Rattle.run_inputs.specs.Controls.{is_named, apart_from, apart, built_of, built}
 use Rattle.run_inputs.specs.Inputs.{PlainInput, ReadsInputs}
 use Rattle.combine_cli.specs.Alike.{ungrouped, AreAlike, AlikeAreAdmitted, AlikeCombine}
-use Rattle.combine_cli.specs.Combination.{apriori_rows, is_reference, counted_rows, HaveCommon, Recovers, Shifts, Part, IsPart, AreParts, Group, members, IsGroupStack, AreGroupStacks, IsWholeStack, StacksParts, AddsDatum, Reports, Texts, IsCombined}
-use Rattle.combine_cli.specs.Parts.{neqs_of}
+use Rattle.combine_cli.specs.Combination.{apriori_rows, is_reference, counted_rows, HaveCommon, Recovers, Shifts, Part, IsPart, AreParts, Group, members, IsGroupStack, AreGroupStacks, IsWholeStack, StacksParts, AddsDatum, Solves, Texts, IsOut, IsOutIf, AreTexts, IsCombined}
+use Rattle.combine_cli.specs.Parts.{neqs_of, names_in, docs_in}
 use Rattle.neq_stack.proofs.Laws.{stacks_regroup, stacks_move, some_have_stack}
 use Rattle.combine_cli.proofs.EachLaws.{maps_from_each, went_on, in_turn_alike}
 use Rattle.combine_cli.proofs.GroupLaws.{plans_in, all_members, members_among, groups_part, groups_exist}
@@ -137,18 +142,70 @@ module _ (parts : List Part) (neq : PlainNeq) (sound : All IsSound (neqs_of part
       (found.0, found.1, then_gives (AreGroupStacks parts found.0) IsWholeStack stacks.0 (Ok neq) (each_group_stacks parts [] found.0 stacks.0 stacks.1) whole)
 
 -- ---- all steps
-abbrev CombinedBy : List ℕ → ScaleMap → Option PlainDatum → List PlainInput → Texts → Type 0
-CombinedBy reference scales datum inputs texts =
+-- a combination by the parts of its control
+abbrev CombinedBy : Bool → PlainControl → List ℕ → ScaleMap → Option PlainDatum → List PlainInput → Texts → Type 0
+CombinedBy whole control reference scales datum inputs texts =
     Then (HaveCommon reference inputs) (λ base.
     Then (AreParts scales base inputs) (λ parts.
     Then (StacksParts parts) (λ free.
     Then (AddsDatum datum free) (λ neq.
-    Then (Reports neq) (λ report r.
-    r ≡ Ok (record { out = []; report = report })))))) (Ok texts)
+    Then (Solves neq) (λ numbers.
+    AreTexts whole control inputs free neq numbers))))) (Ok texts)
 
-combined_kept : (reference : List ℕ) (scales : ScaleMap) (datum : Option PlainDatum) (inputs others : List PlainInput) (texts : Texts) → AreEach SameInput inputs others
-    → CombinedBy reference scales datum inputs texts → CombinedBy reference scales datum others texts
-combined_kept reference scales datum inputs others texts each h =
+-- the names of the files and what they say
+names_kept : (inputs others : List PlainInput) → AreEach SameInput inputs others → names_in inputs ≡ names_in others
+names_kept inputs others each = maps_from_each SameInput (λ (input : PlainInput). input.plan.name) (λ (input : PlainInput). input.plan.name) (λ one other same. same_name one.plan other.plan same.plan) inputs others each
+
+docs_kept : (inputs others : List PlainInput) → AreEach SameInput inputs others → docs_in inputs ≡ docs_in others
+docs_kept inputs others each = maps_from_each SameInput (λ (input : PlainInput). input.doc) (λ (input : PlainInput). input.doc) (λ one other same. same.doc) inputs others each
+
+-- the texts of the same inputs
+module _ (control : PlainControl) (inputs others : List PlainInput) (each : AreEach SameInput inputs others) (free : PlainNeq) (numbers : Numbers) where
+  out_kept : (out : List ℕ) → IsOut control inputs free numbers out → IsOut control others free numbers out
+  out_kept out is = record {
+    sites = is.sites;
+    merged = subst (λ (docs : List PlainDoc). IsMerge docs is.sites) (docs_kept inputs others each) is.merged;
+    tells = is.tells ∙ ap (λ (names : List (List ℕ)). combined_text control names is.sites free numbers.rows) (names_kept inputs others each);
+  }
+
+  out_if_kept : (whole : Bool) (out : List ℕ) → IsOutIf whole control inputs free numbers out → IsOutIf whole control others free numbers out
+  out_if_kept false out is = is
+  out_if_kept true out is = out_kept out is
+
+  texts_kept : (whole : Bool) (neq : PlainNeq) (r : Result Texts Refusal) → AreTexts whole control inputs free neq numbers r → AreTexts whole control others free neq numbers r
+  texts_kept whole neq (Ok texts) is = (out_if_kept whole texts.out is.0, is.1)
+  texts_kept whole neq (Err refusal) is = absurd is
+
+-- the texts of a control with the same header and the same datum
+text_of_parts : (one other : PlainControl) → one.header ≡ other.header → one.datum ≡ other.datum
+    → (names : List (List ℕ)) (sites : PlainSites) (free : PlainNeq) (rows : List Printed) → combined_text one names sites free rows ≡ combined_text other names sites free rows
+text_of_parts one other header datum names sites free rows =
+    ap (λ (h : PlainOutput). combined_text (record one { header = h }) names sites free rows) header
+    ∙ ap (λ (d : Option PlainDatum). combined_text (record one { header = other.header; datum = d }) names sites free rows) datum
+
+module _ (one other : PlainControl) (header : one.header ≡ other.header) (datum : one.datum ≡ other.datum) (inputs : List PlainInput) (free neq : PlainNeq) (numbers : Numbers) where
+  out_told : (whole : Bool) (out : List ℕ) → IsOutIf whole one inputs free numbers out → IsOutIf whole other inputs free numbers out
+  out_told false out is = is
+  out_told true out is = record { sites = is.sites; merged = is.merged; tells = is.tells ∙ text_of_parts one other header datum (names_in inputs) is.sites free numbers.rows }
+
+  texts_told : (whole : Bool) (r : Result Texts Refusal) → AreTexts whole one inputs free neq numbers r → AreTexts whole other inputs free neq numbers r
+  texts_told whole (Ok texts) is = (out_told whole texts.out is.0, is.1)
+  texts_told whole (Err refusal) is = absurd is
+
+-- what follows the stack
+module _ (whole : Bool) (one other : PlainControl) (header : one.header ≡ other.header) (same : one.datum ≡ other.datum) (datum : Option PlainDatum) (inputs others : List PlainInput)
+    (each : AreEach SameInput inputs others) (free : PlainNeq) (texts : Texts) where
+  stack_kept : Then (AddsDatum datum free) (λ neq. Then (Solves neq) (AreTexts whole one inputs free neq)) (Ok texts)
+      → Then (AddsDatum datum free) (λ neq. Then (Solves neq) (AreTexts whole other others free neq)) (Ok texts)
+  stack_kept h =
+      let d = went_on (AddsDatum datum free) _ texts h in
+      let e = went_on (Solves d.gives) _ texts d.onward in
+      let told = texts_told one other header same others free d.gives e.gives whole (Ok texts) (texts_kept one inputs others each free e.gives whole d.gives (Ok texts) e.onward) in
+      then_gives (AddsDatum datum free) _ d.gives (Ok texts) d.given (then_gives (Solves d.gives) _ e.gives (Ok texts) e.given told)
+
+combined_kept : (whole : Bool) (one other : PlainControl) → one.header ≡ other.header → one.datum ≡ other.datum → (reference : List ℕ) (scales : ScaleMap) (datum : Option PlainDatum) (inputs others : List PlainInput) (texts : Texts)
+    → AreEach SameInput inputs others → CombinedBy whole one reference scales datum inputs texts → CombinedBy whole other reference scales datum others texts
+combined_kept whole one other header same_datum reference scales datum inputs others texts each h =
     let a = went_on (HaveCommon reference inputs) _ texts h in
     let b = went_on (AreParts scales a.gives inputs) _ texts a.onward in
     let c = went_on (StacksParts b.gives) _ texts b.onward in
@@ -157,17 +214,17 @@ combined_kept reference scales datum inputs others texts each h =
     let stack : IsStackOf (neqs_of parts.0) c.gives = subst (λ (neqs : List PlainNeq). IsStackOf neqs c.gives) same (whole_is_of_parts b.gives c.gives c.given) in
     let sound = parts_sound (neqs_of parts.0) c.gives (parts_made scales a.gives others parts.0 parts.1) stack in
     then_gives (HaveCommon reference others) _ a.gives (Ok texts) (common_kept reference inputs others a.gives each a.given)
-    (then_gives (AreParts scales a.gives others) _ parts.0 (Ok texts) parts.1 (then_gives (StacksParts parts.0) _ c.gives (Ok texts) (parts_stacked parts.0 c.gives sound stack) c.onward))
+    (then_gives (AreParts scales a.gives others) _ parts.0 (Ok texts) parts.1 (then_gives (StacksParts parts.0) _ c.gives (Ok texts) (parts_stacked parts.0 c.gives sound stack) (stack_kept whole one other header same_datum datum inputs others each c.gives texts c.onward)))
 
 pub alike_combine : AlikeCombine
-alike_combine files one other texts alike h =
+alike_combine whole files one other texts alike h =
     let f = went_on (ReadsInputs one.files files) _ texts h in
     let read = inputs_alike files one other f.gives alike f.given in
-    let kept = combined_kept one.run.reference one.scales one.datum f.gives read.0 texts read.2 f.onward in
-    let referred = subst (λ (reference : List ℕ). CombinedBy reference one.scales one.datum read.0 texts) alike.reference kept in
-    let scaled = subst (λ (scales : ScaleMap). CombinedBy other.run.reference scales one.datum read.0 texts) alike.scales referred in
-    then_gives (ReadsInputs other.files files) (IsCombined other) read.0 (Ok texts) read.1
-    (subst (λ (datum : Option PlainDatum). CombinedBy other.run.reference other.scales datum read.0 texts) alike.datum scaled)
+    let kept = combined_kept whole one other alike.header alike.datum one.run.reference one.scales one.datum f.gives read.0 texts read.2 f.onward in
+    let referred = subst (λ (reference : List ℕ). CombinedBy whole other reference one.scales one.datum read.0 texts) alike.reference kept in
+    let scaled = subst (λ (scales : ScaleMap). CombinedBy whole other other.run.reference scales one.datum read.0 texts) alike.scales referred in
+    then_gives (ReadsInputs other.files files) (IsCombined whole other) read.0 (Ok texts) read.1
+    (subst (λ (datum : Option PlainDatum). CombinedBy whole other other.run.reference other.scales datum read.0 texts) alike.datum scaled)
 
 -- ---- admitted together
 unnamed : (test : PlainPlan → Bool) (plans : List PlainPlan) → find test plans ≡ None → AllByRecursion (λ plan. test plan ≡ false) plans

@@ -31,9 +31,10 @@ use Rattle.datum_rows.proofs.ExistLaws.{datum_exists, datum_multiples}
 use Rattle.datum_rows.proofs.HoldLaws.{datum_holds_in}
 use Rattle.run_inputs.specs.Inputs.{PlainInput}
 use Rattle.combine_cli.specs.Combination.{HaveCommon, Part, AreParts, AddsDatum, stack_in}
-use Rattle.combine_cli.specs.Headline.{IsExactAt, IsExactOf, IsWith, IsExactWith, IsCertifiedReport}
+use Rattle.combine_cli.specs.Headline.{IsExactAt, IsExactOf, IsWith, IsExactWith, AreCertifiedOf, IsCertifiedReport}
+use Rattle.stack_rules.specs.Rules.{Numbers, IsAnswer}
+use Rattle.bounds_text.specs.Report.{numbers_report}
 use Rattle.combine_cli.specs.Parts.{IsPartOf, neqs_of}
-use Rattle.combine_cli.specs.Plan.{IsCertifiedText}
 use Rattle.combine_cli.proofs.Agreement.{value_there}
 use Rattle.combine_cli.proofs.EachLaws.{any_cases, any_none, went_on}
 
@@ -99,9 +100,9 @@ same_ok : {X E : Type 0} (x y : X) → (let r : Result X E = Ok x in let s : Res
 same_ok x y e = cc
 
 -- normal equations with the rows of a datum have the names and the exponents that they had
-record HasNamesOf (before after : PlainNeq) : Type 0 where
-  names : after.names ≡ before.names
-  scales : after.scales ≡ before.scales
+pub record HasNamesOf (before after : PlainNeq) : Type 0 where
+  pub names : after.names ≡ before.names
+  pub scales : after.scales ≡ before.scales
 
 same_names : (before after : PlainNeq) → after ≡ before → HasNamesOf before after
 same_names before after e = record { names = ap (λ (n : PlainNeq). n.names) e; scales = ap (λ (n : PlainNeq). n.scales) e }
@@ -113,7 +114,7 @@ names_through sites neq after (condition ∷ rest) is =
     let next = names_through sites f.gives after rest f.onward in
     record { names = next.names ∙ f.given.1.names; scales = next.scales ∙ f.given.1.scales }
 
-names_added : (datum : Option PlainDatum) (free neq : PlainNeq) → AddsDatum datum free (Ok neq) → HasNamesOf free neq
+pub names_added : (datum : Option PlainDatum) (free neq : PlainNeq) → AddsDatum datum free (Ok neq) → HasNamesOf free neq
 names_added None free neq added = same_names free neq (same_ok neq free added)
 names_added (Some datum) free neq added = let f = went_on _ _ neq added in names_through datum.sites free neq (conditions datum) f.onward
 
@@ -279,20 +280,20 @@ module _ (control : PlainControl) (inputs : List PlainInput) (base : List Row) (
         let kept = names_added control.datum free neq added in
         neq_lies_in_stack exponent neq T sound (kept.scales ∙ exponents ∙ ap (map exponent) (sym kept.names)) lies
 
-    pub is_certified_report : (report : List ℕ) → AreParts control.scales base inputs (Ok parts) → IsCertifiedText neq report → IsCertifiedReport control inputs report
-    is_certified_report report recovers text = record {
+    pub is_certified_report : (numbers : Numbers) (report : List ℕ) → AreParts control.scales base inputs (Ok parts) → IsAnswer (stack_in neq) (Ok numbers) → AreCertifiedOf neq numbers → report ≡ numbers_report neq.names neq.units numbers → IsCertifiedReport control inputs report
+    is_certified_report numbers report recovers answers certified tells = record {
       base = base;
       parts = parts;
       free = free;
       neq = neq;
-      numbers = text.numbers;
+      numbers = numbers;
       common = common;
       recovers = recovers;
       stack = stack;
       datum = added;
-      answers = text.answers;
-      tells = text.tells;
+      answers = answers;
+      tells = tells;
       exact_exists = some_exact;
       exact = exact_in_stack;
-      certified = text.certified;
+      certified = certified;
     }

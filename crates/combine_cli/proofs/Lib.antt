@@ -20,6 +20,7 @@ pub mod RunLaws
 pub mod ShiftedParts
 pub mod SoundParts
 pub mod StackBounds
+pub mod TellingLaws
 pub mod TurnLaws
 pub mod UngroupLaws
 pub mod Verdicts

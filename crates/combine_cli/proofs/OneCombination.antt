@@ -10,7 +10,7 @@ use Rattle.std.proofs.lemmas.Cmp.{nat_cmp_total, nat_list_cmp_total, on_total, t
 use Rattle.std.proofs.lemmas.Map.Lookups.{exact_bytes, exact_unsigned, btree_set_from_contains}
 use Rattle.std.proofs.lemmas.Map.Views.{btree_set_contains_iff}
 use Rattle.stated_order.specs.Steps.{IsOne, Then}
-use Rattle.stated_order.proofs.StepLaws.{gives_or_refuses, then_is_one, in_turn_is_one, renamed_is_one}
+use Rattle.stated_order.proofs.StepLaws.{then_is_one, in_turn_is_one, renamed_is_one}
 use Rattle.param_ids.specs.Tables.{ScaleMap}
 use Rattle.snx_rows.specs.Named.{value_of}
 use Rattle.snx_rows.specs.declared.rows.Row.{Row}
@@ -26,13 +26,16 @@ use Rattle.apriori_shift.proofs.Alone.{one_shift}
 use Rattle.apriori_shift.proofs.CommonLaws.{one_common}
 use Rattle.datum_rows.specs.Additions.{IsAddition}
 use Rattle.datum_rows.proofs.Alone.{one_addition}
-use Rattle.stack_rules.specs.Rules.{IsAnswer}
+use Rattle.stack_rules.specs.Rules.{Numbers, IsAnswer}
 use Rattle.stack_rules.proofs.Alone.{answer_is_one}
-use Rattle.bounds_text.specs.Report.{numbers_report}
 use Rattle.run_inputs.specs.Inputs.{PlainInput}
 use Rattle.refusal_lines.specs.declared.refusal.Refusal.TheVariants.{UnitClash}
 use Rattle.combine_cli.specs.Causes.{refusal_of_recovery, refusal_of_shift, refusal_of_datum, refusal_of_rules}
-use Rattle.combine_cli.specs.Combination.{counted_rows, HaveCommon, Recovers, Shifts, Part, IsPart, AreParts, Group, place_of, group_cmp, AreGroups, IsGroupStack, AreGroupStacks, IsWholeStack, StacksParts, AddsDatum, stack_in, Reports, IsCombined}
+use Rattle.combine_cli.specs.Combination.{counted_rows, HaveCommon, Recovers, Shifts, Part, IsPart, AreParts, Group, place_of, group_cmp, AreGroups, IsGroupStack, AreGroupStacks, IsWholeStack, StacksParts, AddsDatum, stack_in, Solves, IsOut, IsOutIf, AreTexts, IsCombined}
+use Rattle.combine_cli.specs.Parts.{names_in, docs_in}
+use Rattle.site_merge.specs.Merged.{PlainSites}
+use Rattle.site_merge.proofs.Alone.{one_merge}
+use Rattle.snx_write.specs.Combined.{combined_text}
 use Rattle.combine_cli.proofs.EachLaws.{went_on}
 use Rattle.neq_stack.proofs.Laws.{stack_is_one}
 
@@ -125,23 +128,33 @@ adds_datum_is_one None free rows = λ r s a b. a ∙ sym b
 adds_datum_is_one (Some datum) free rows = renamed_is_one (refusal_of_datum free.names) (IsAddition datum free) (one_addition datum free rows)
 
 -- ---- the rules
-reports_is_one : (neq : PlainNeq) → IsOne (Reports neq)
-reports_is_one neq (Ok a) (Ok b) h k =
-    let e = answer_is_one (stack_in neq) (Ok h.0) (Ok k.0) h.1 k.1 in
-    let numbers : h.0 ≡ k.0 = cc in
-    ap Ok (h.2 ∙ ap (numbers_report neq.names neq.units) numbers ∙ sym k.2)
-reports_is_one neq (Ok a) (Err d) h k = absurd (gives_or_refuses (IsAnswer (stack_in neq)) h.0 k.0 (answer_is_one (stack_in neq)) h.1 k.1)
-reports_is_one neq (Err c) (Ok b) h k = absurd (gives_or_refuses (IsAnswer (stack_in neq)) k.0 h.0 (answer_is_one (stack_in neq)) k.1 h.1)
-reports_is_one neq (Err c) (Err d) h k =
-    let e = answer_is_one (stack_in neq) (Err h.0) (Err k.0) h.1 k.1 in
-    let cause : h.0 ≡ k.0 = cc in
-    ap Err (h.2 ∙ ap (refusal_of_rules neq.names) cause ∙ sym k.2)
+solves_is_one : (neq : PlainNeq) → IsOne (Solves neq)
+solves_is_one neq = renamed_is_one (refusal_of_rules neq.names) (IsAnswer (stack_in neq)) (answer_is_one (stack_in neq))
+
+-- ---- the texts
+module _ (control : PlainControl) (inputs : List PlainInput) (free : PlainNeq) (numbers : Numbers) where
+  out_is_one : (one other : List ℕ) → IsOut control inputs free numbers one → IsOut control inputs free numbers other → one ≡ other
+  out_is_one one other a b =
+      let sites = one_merge (docs_in inputs) a.sites b.sites a.merged b.merged in
+      a.tells ∙ ap (λ (sites : PlainSites). combined_text control (names_in inputs) sites free numbers.rows) sites ∙ sym b.tells
+
+  out_if_is_one : (whole : Bool) (one other : List ℕ) → IsOutIf whole control inputs free numbers one → IsOutIf whole control inputs free numbers other → one ≡ other
+  out_if_is_one false one other a b = a ∙ sym b
+  out_if_is_one true one other a b = out_is_one one other a b
+
+  texts_are_one : (whole : Bool) (neq : PlainNeq) → IsOne (AreTexts whole control inputs free neq numbers)
+  texts_are_one whole neq (Ok one) (Ok other) a b =
+      let out = out_if_is_one whole one.out other.out a.0 b.0 in
+      let report = a.1 ∙ sym b.1 in
+      ap Ok (λ i. record { out = out i; report = report i })
+  texts_are_one whole neq (Ok one) (Err fault) a b = absurd b
+  texts_are_one whole neq (Err fault) other a b = absurd a
 
 -- ---- all steps
-pub combined_is_one : (control : PlainControl) (inputs : List PlainInput) → IsOne (IsCombined control inputs)
-combined_is_one control inputs =
+pub combined_is_one : (whole : Bool) (control : PlainControl) (inputs : List PlainInput) → IsOne (IsCombined whole control inputs)
+combined_is_one whole control inputs =
     then_is_one (HaveCommon control.run.reference inputs) _ (common_is_one control.run.reference inputs) (λ base common.
     then_is_one (AreParts control.scales base inputs) _ (parts_are_one control.scales base inputs) (λ parts found.
     then_is_one (StacksParts parts) _ (stacks_parts_is_one parts) (λ free stacked.
     then_is_one (AddsDatum control.datum free) _ (adds_datum_is_one control.datum free (stacked_rows parts free stacked)) (λ neq added.
-    then_is_one (Reports neq) _ (reports_is_one neq) (λ report told r s a b. a ∙ sym b)))))
+    then_is_one (Solves neq) (AreTexts whole control inputs free neq) (solves_is_one neq) (λ numbers told. texts_are_one control inputs free numbers whole neq)))))

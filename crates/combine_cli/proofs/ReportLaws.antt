@@ -1,4 +1,4 @@
--- The report of a stack, from what the rules answer.
+-- The numbers of a stack, from what the rules answer.
 use Rattle.std.proofs.Common.{◌≡◌, ◌∙◌, ℤ, List, length, Err, ap, subst, inl, inr}
 use Rattle.whole_numbers.specs.Intervals.{Interval}
 use Rattle.decimal_e.specs.Decimals.{Decimal}
@@ -14,7 +14,7 @@ use Rattle.refusal_lines.specs.declared.refusal.Refusal.{Refusal}
 use Rattle.refusal_lines.specs.declared.refusal.Refusal.TheVariants.{Memory}
 use Rattle.run_inputs.specs.Views.{IfTold}
 use Rattle.combine_cli.specs.Causes.{refusal_of_rules}
-use Rattle.combine_cli.specs.Combination.{stack_in, Reports}
+use Rattle.combine_cli.specs.Combination.{stack_in, Solves}
 use Rattle.combine_cli.specs.Headline.{AreCertifiedOf}
 
 -- equal lists make one stack
@@ -29,6 +29,6 @@ certified_by_names neq numbers s same rows h =
     (subst (λ (s : Stack). AreCertified s.rows s.table s.scales s.apriori (numbers_at numbers.rows)) same h)
 
 -- a cause of the rules other than want of memory, told as its refusal
-pub told_cause : (refusal : Refusal) (neq : PlainNeq) (cause : StackError) → IsRefusedWith (stack_in neq) cause → refusal ≡ refusal_of_rules neq.names cause → IfTold (λ r. Reports neq (Err r)) refusal
+pub told_cause : (refusal : Refusal) (neq : PlainNeq) (cause : StackError) → IsRefusedWith (stack_in neq) cause → refusal ≡ refusal_of_rules neq.names cause → IfTold (λ r. Solves neq (Err r)) refusal
 told_cause refusal neq cause (inr answer) e = λ a b. (cause, answer, e)
 told_cause refusal neq cause (inl memory) e = λ a b. let f : refusal ≡ Memory = e ∙ ap (refusal_of_rules neq.names) memory in absurd (a (ap status_of f))

@@ -1,5 +1,5 @@
 -- What does not change a combination: the order of its files, their groups, and how many work.
-use Rattle.std.specs.Prelude.{◌≡◌, ℕ, List, [], map, Option, Ok}
+use Rattle.std.specs.Prelude.{◌≡◌, ℕ, Bool, List, [], map, Option, Ok}
 use Rattle.std.specs.List.Sorted.{IsPermutation}
 use Rattle.desk_io.specs.Content.{File}
 use Rattle.control_doc.specs.Plain.{PlainPlan, PlainControl}
@@ -28,5 +28,5 @@ AlikeAreAdmitted = (names : CombinedFiles) (one other : PlainControl) → AreAli
 
 -- where one of them gives texts, the other gives the same
 abbrev pub AlikeCombine : Type 0
-AlikeCombine = (files : List ℕ → Option File) (one other : PlainControl) (texts : Texts) → AreAlike one other
-    → Combines one files (Ok texts) → Combines other files (Ok texts)
+AlikeCombine = (whole : Bool) (files : List ℕ → Option File) (one other : PlainControl) (texts : Texts) → AreAlike one other
+    → Combines whole one files (Ok texts) → Combines whole other files (Ok texts)

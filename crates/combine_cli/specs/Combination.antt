@@ -1,6 +1,6 @@
 -- From files that were read to the texts of their combination, as steps in their order: one a priori value and one unit for each
 -- name, the normal equations of each file brought to these values, the stacks of the groups, the whole stack, the rows of the datum, the
--- rules.
+-- rules, the texts.
 use Rattle.std.specs.Prelude.{◌≡◌, ◌↔◌, ◌++◌, ℕ, Bool, true, false, ◌&&◌, ◌==◌, List, [], ◌∷◌, map, Option, Some, None, Result, Ok, Err, Contains}
 use Rattle.std.specs.List.{Any, filter, flat_map}
 use Rattle.std.specs.List.Sorted.{IsStrictlySortedBy}
@@ -23,6 +23,8 @@ use Rattle.datum_rows.specs.Additions.{IsAddition}
 use Rattle.stack_rules.specs.Rules.{Numbers, IsAnswer}
 use Rattle.stack_rules.specs.Stacks.{Stack, stack_of}
 use Rattle.bounds_text.specs.Report.{numbers_report}
+use Rattle.site_merge.specs.Merged.{PlainSites, IsMerge}
+use Rattle.snx_write.specs.Combined.{combined_text}
 use Rattle.refusal_lines.specs.declared.refusal.Scope.TheVariants as places
 use Rattle.refusal_lines.specs.declared.refusal.Refusal.{Refusal}
 use Rattle.refusal_lines.specs.declared.refusal.Refusal.TheVariants.{UnitClash, TooMany}
@@ -131,22 +133,39 @@ AddsDatum (Some datum) free result = Renamed (refusal_of_datum free.names) (IsAd
 abbrev pub stack_in : PlainNeq → Stack
 stack_in neq = stack_of neq.table neq.right neq.apriori neq.scales
 
--- the report of the rules' numbers, or the refusal for their cause
-abbrev pub Reports : PlainNeq → Result (List ℕ) Refusal → Type 0
-Reports neq (Ok text) = (numbers : Numbers) × IsAnswer (stack_in neq) (Ok numbers) × (text ≡ numbers_report neq.names neq.units numbers)
-Reports neq (Err refusal) = Renamed (refusal_of_rules neq.names) (IsAnswer (stack_in neq)) (Err refusal)
+-- the numbers of the rules, or the refusal for their cause
+abbrev pub Solves : PlainNeq → Result Numbers Refusal → Type 0
+Solves neq = Renamed (refusal_of_rules neq.names) (IsAnswer (stack_in neq))
 
--- ---- all steps, in their order
--- The texts of a combination: the combined file, which is empty until it is built, and the report of bounds.
+-- ---- the texts
+-- The texts of a combination: the combined file, which is empty where it isn't asked for, and the report of bounds.
 pub record Texts : Type 0 where
   pub out : List ℕ
   pub report : List ℕ
 
-abbrev pub IsCombined : PlainControl → List PlainInput → Result Texts Refusal → Type 0
-IsCombined control inputs =
+-- the combined file tells the control's header, the names of the files in order, their sites and moments, the stack without the rows of the
+-- datum, and the numbers
+pub record IsOut (control : PlainControl) (inputs : List PlainInput) (free : PlainNeq) (numbers : Numbers) (out : List ℕ) : Type 0 where
+  pub sites : PlainSites
+  pub merged : IsMerge (map (λ (input : PlainInput). input.doc) inputs) sites
+  pub tells : out ≡ combined_text control (map (λ (input : PlainInput). input.plan.name) inputs) sites free numbers.rows
+
+abbrev pub IsOutIf : Bool → PlainControl → List PlainInput → PlainNeq → Numbers → List ℕ → Type 0
+IsOutIf false control inputs free numbers out = out ≡ []
+IsOutIf true control inputs free numbers out = IsOut control inputs free numbers out
+
+-- the texts of the stack without and with the rows of the datum
+abbrev pub AreTexts : Bool → PlainControl → List PlainInput → PlainNeq → PlainNeq → Numbers → Result Texts Refusal → Type 0
+AreTexts whole control inputs free neq numbers (Ok texts) =
+    IsOutIf whole control inputs free numbers texts.out × (texts.report ≡ numbers_report neq.names neq.units numbers)
+AreTexts whole control inputs free neq numbers (Err refusal) = ⊥
+
+-- ---- all steps, in their order: the texts, with the combined file or without it, or the first refusal
+abbrev pub IsCombined : Bool → PlainControl → List PlainInput → Result Texts Refusal → Type 0
+IsCombined whole control inputs =
     Then (HaveCommon control.run.reference inputs) (λ base.
     Then (AreParts control.scales base inputs) (λ parts.
     Then (StacksParts parts) (λ free.
     Then (AddsDatum control.datum free) (λ neq.
-    Then (Reports neq) (λ report r.
-    r ≡ Ok (record { out = []; report = report }))))))
+    Then (Solves neq) (λ numbers.
+    AreTexts whole control inputs free neq numbers)))))

@@ -1,7 +1,7 @@
 -- What a run is to do: a relation of its words, the files by name and its outcome, and of nothing else. It is said as steps in
 -- their order: the words, the control file, the files in the order of their names, and their combination. The first that refuses
 -- gives the outcome.
-use Rattle.std.specs.Prelude.{◌≡◌, ◌∷◌, ℕ, List, [], Option, Result, Ok}
+use Rattle.std.specs.Prelude.{◌≡◌, ◌∷◌, ℕ, Bool, true, false, List, [], Option, Result, Ok}
 use Rattle.stated_order.specs.Steps.{Then}
 use Rattle.desk_io.specs.Content.{File}
 use Rattle.desk_io.specs.Outputs.{NamedText}
@@ -17,9 +17,14 @@ use Rattle.combine_cli.specs.Combination.{Texts, IsCombined}
 abbrev pub Outcome : Type 0
 Outcome = Result (List NamedText) Refusal
 
--- what a command does to the files of a control: it reads them and combines them
-abbrev pub Combines : PlainControl → (List ℕ → Option File) → Result Texts Refusal → Type 0
-Combines control files = Then (ReadsInputs control.files files) (IsCombined control)
+-- what a command does to the files of a control: it reads them and combines them, with the combined file or without it
+abbrev pub Combines : Bool → PlainControl → (List ℕ → Option File) → Result Texts Refusal → Type 0
+Combines whole control files = Then (ReadsInputs control.files files) (IsCombined whole control)
+
+-- `combine` alone writes the combined file
+abbrev pub writes_out : PlainCommand → Bool
+writes_out (Solve names) = false
+writes_out (Combine names) = true
 
 -- the control of a command: `solve` is the combination of a single file
 abbrev pub HasControl : PlainCommand → (List ℕ → Option File) → Result PlainControl Refusal → Type 0
@@ -35,5 +40,5 @@ abbrev pub IsVerdict : List (List ℕ) → (List ℕ → Option File) → Outcom
 IsVerdict words files =
     Then (ReadsWords words) (λ command.
     Then (HasControl command files) (λ control.
-    Then (Combines control files) (λ texts r.
+    Then (Combines (writes_out command) control files) (λ texts r.
     r ≡ Ok (outputs_with command texts))))

@@ -88,4 +88,4 @@ freed_of_sigmas = record (alone_plan (codes "in")) { held = Sigma }
 
 -- a printed row with these bounds, in units of 10^-16
 abbrev pub bounded_by : ℤ → ℤ → Printed
-bounded_by lower upper = record { estimate = lower; lower = lower; upper = upper; residual = 0; place = pos 0 }
+bounded_by lower upper = record { estimate = lower; lower = lower; upper = upper; residual = 0; place = pos 0; deviation = 0; deviation_place = pos 0 }

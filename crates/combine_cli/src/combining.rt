@@ -1,6 +1,7 @@
 //! From files that were read to the texts of their combination.
 
 ghost use Rattle.std.specs.Prelude.{◌≡◌, ◌≢◌, ◌≤◌, All, IfOk, IfErr, IfSome, Ok, Err, length, map};
+ghost use Rattle.snx_epoch.specs.Moments.{IsMoment};
 ghost use Rattle.snx_blocks.specs.Documents.{IsValid};
 ghost use Rattle.snx_blocks.specs.Views.{doc_view};
 ghost use Rattle.control_doc.specs.Valid.{IsPositiveAndShort, HasPositiveSigmas};
@@ -11,11 +12,11 @@ ghost use Rattle.combine_cli.specs.Combination.{IsCombined};
 ghost use Rattle.combine_cli.specs.Headline.{IsCertifiedReport};
 ghost use Rattle.combine_cli.specs.Plan.{texts_view};
 
-use crate::commons::common_of;
-use crate::datum::with_datum;
-use crate::parts::parts_of;
-use crate::reporting::report_of;
-use crate::stacking::stack_of_parts;
+use crate::datum::{solved_stack, with_datum};
+use crate::solving::solved;
+use crate::summing::free_stack;
+use crate::telling::{names_of, out_of, sites_of};
+use bounds_text::report;
 use control_doc::Control;
 use refusal_lines::Refusal;
 use run_inputs::Input;
@@ -25,7 +26,7 @@ use std::thread::Threads;
 /// The texts of a combination.
 #[derive(Drop)]
 pub struct Combined {
-    /// The combined file; empty until it is built.
+    /// The combined file; empty where it isn't asked for.
     pub out: Vec<u8>,
     /// The report of bounds.
     pub report: Vec<u8>,
@@ -39,7 +40,7 @@ fn workers_of(control: &Control) -> usize
     control.workers.max(1).min(16)
 }
 
-/// The combination of files that were read, in the order of their names.
+/// The combination of files that were read, in the order of their names. The combined file is made where it is asked for.
 ///
 /// # Errors
 ///
@@ -52,24 +53,26 @@ pub fn combine_core<R: Threads + Sync>(
     alloc: Global,
     control: &Control,
     inputs: Vec<Input<'_>>,
+    whole: bool,
 ) -> Result<Combined, Refusal>
     requires valid { All (λ input. IsValid (doc_view input.doc)) inputs.items }
     requires weights { All (λ input. IsPositiveAndShort (input_view input).plan.weight) inputs.items }
     requires few { length inputs.items ≤ 64 }
     requires positive { IfSome (control_view control.now).datum HasPositiveSigmas }
-    ensures combined { IfOk result (λ combined. IsCombined (control_view control.now) (map input_view inputs.entry.items) (Ok (texts_view combined))) }
+    requires created { IsMoment control.now.created }
+    ensures combined { IfOk result (λ combined. IsCombined whole (control_view control.now) (map input_view inputs.entry.items) (Ok (texts_view combined))) }
     ensures certified { IfOk result (λ combined. IsCertifiedReport (control_view control.now) (map input_view inputs.entry.items) combined.report.items) }
-    ensures refused { IfErr result (IfTold (λ refusal. IsCombined (control_view control.now) (map input_view inputs.entry.items) (Err refusal))) }
+    ensures refused { IfErr result (IfTold (λ refusal. IsCombined whole (control_view control.now) (map input_view inputs.entry.items) (Err refusal))) }
     ensures no_fault { IfErr result (λ refusal. status_of refusal ≢ 5) }
 {
-    let base = common_of(alloc, control.reference.as_str(), &inputs)?;
     let workers = workers_of(control);
-    let parts = parts_of(rt, alloc, &control.scales, &base, inputs, workers)?;
-    let mut neq = stack_of_parts(alloc, &parts)?;
-    with_datum(alloc, control.datum.as_ref(), &mut neq)?;
-    let report = report_of(rt, alloc, &neq, workers)?;
-    Ok(Combined {
-        out: Vec::new(alloc),
-        report,
-    })
+    let files = names_of(alloc, &inputs)?;
+    let sites = sites_of(alloc, &inputs)?;
+    let free = free_stack(rt, alloc, control, inputs, workers)?;
+    let added = with_datum(alloc, control.datum.as_ref(), &free)?;
+    let neq = solved_stack(&free, &added);
+    let numbers = solved(rt, alloc, neq, workers)?;
+    let report = report(alloc, &neq.names, &neq.units, &numbers)?;
+    let out = out_of(alloc, whole, control, &files, &sites, &free, &numbers)?;
+    Ok(Combined { out, report })
 }

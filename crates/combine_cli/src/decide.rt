@@ -5,7 +5,7 @@ ghost use Rattle.desk_io.specs.Outputs.{named_text};
 ghost use Rattle.control_doc.specs.Valid.{IsValidControl};
 ghost use Rattle.control_doc.specs.Views.{control_view};
 ghost use Rattle.run_inputs.specs.Views.{command_view, status_in, IfTold, HasStatusCause};
-ghost use Rattle.combine_cli.specs.Verdict.{HasControl, Combines, IsVerdict, outputs_with};
+ghost use Rattle.combine_cli.specs.Verdict.{HasControl, Combines, IsVerdict, writes_out, outputs_with};
 ghost use Rattle.combine_cli.specs.Plan.{IsPlanned, IsTextsOf, texts_view};
 
 use crate::combining::{Combined, combine_core};
@@ -37,21 +37,32 @@ fn control_of<D: Desk>(
     }
 }
 
-// The texts of a control's files.
+// Whether a command writes the combined file.
+fn writes_out(command: &Command<'_>) -> bool
+    ensures { result ≡ writes_out (command_view command.now) }
+{
+    match command {
+        Command::Solve(_) => false,
+        Command::Combine(_) => true,
+    }
+}
+
+// The texts of a control's files, with the combined file or without it.
 fn texts_of<R: Threads + Sync, D: Desk>(
     rt: &R,
     alloc: Global,
     control: &Control,
+    whole: bool,
     desk: &mut D,
 ) -> Result<Combined, Refusal>
     requires { IsValidControl (control_view control.now) }
-    ensures texts { IsTrue D.tells → IfOk result (λ combined. IsTextsOf (control_view control.now) (D.content desk.old).files (texts_view combined)) }
-    ensures refused { IsTrue D.tells → IfErr result (IfTold (λ refusal. Combines (control_view control.now) (D.content desk.old).files (Err refusal))) }
+    ensures texts { IsTrue D.tells → IfOk result (λ combined. IsTextsOf whole (control_view control.now) (D.content desk.old).files (texts_view combined)) }
+    ensures refused { IsTrue D.tells → IfErr result (IfTold (λ refusal. Combines whole (control_view control.now) (D.content desk.old).files (Err refusal))) }
     ensures keeps { IsTrue D.tells → KeepsAll (D.content desk.old) (D.content desk.new) }
     ensures cause { HasStatusCause (D.faults desk.old) (D.faults desk.new) (status_in result) }
 {
     let inputs = read_inputs(rt, alloc, control, desk)?;
-    combine_core(rt, alloc, control, inputs)
+    combine_core(rt, alloc, control, inputs, whole)
 }
 
 // The outputs of a command with these texts.
@@ -100,7 +111,7 @@ pub(crate) fn decide<'a, R: Threads + Sync, D: Desk>(
 {
     let command = read_words(words)?;
     let control = control_of(alloc, command, desk)?;
-    let texts = texts_of(rt, alloc, &control, desk)?;
+    let texts = texts_of(rt, alloc, &control, writes_out(&command), desk)?;
     let outputs = outputs_of(alloc, command, texts)?;
     Ok(outputs)
 }

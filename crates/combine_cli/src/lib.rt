@@ -9,8 +9,10 @@ mod groups;
 mod laws;
 mod naming;
 mod parts;
-mod reporting;
+mod solving;
 mod stacking;
+mod summing;
+mod telling;
 mod top;
 
 pub use combining::{Combined, combine_core};

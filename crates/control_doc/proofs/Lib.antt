@@ -9,4 +9,5 @@ mod DatumSteps
 mod WholeSteps
 mod Fives
 mod TextSteps
+mod Created
 mod Validity

@@ -1,4 +1,5 @@
--- What every control keeps: its files, their names and weights, the standard deviations of its datum, and its scale exponents.
+-- What every control keeps: its files, their names and weights, the standard deviations of its datum, its scale exponents, and its
+-- time of creation.
 use Rattle.std.proofs.Common.{◌≡◌, ◌≢◌, ◌≤◌, ◌<◌, ◌+◌, ◌∙◌, ◌++◌, ◌∷◌, ℕ, zero, suc, ℤ, pos, negsuc, List, [], Bool, true, false, ◌&&◌, ◌||◌, cond, if◌then◌else◌, length, get_or, Option, Some, None, Result, Ok, Err, IfOk, IfSome, codes, refl, sym, ap, subst, arith, length-append}
 use Rattle.std.specs.Prelude.{nat_le, int_le}
 use Rattle.std.specs.List.{All, AllPairs, list_all}
@@ -13,19 +14,21 @@ use Rattle.std.proofs.lemmas.Slice.Eq.{bytes_eq-Decides}
 use Rattle.stated_order.proofs.StepLaws.{went_on, ok_same}
 use Rattle.stated_order.specs.Steps.{InTurn}
 use Rattle.toml.specs.Data.{Data, Members, no_members, get_member}
+use Rattle.snx_epoch.specs.Moments.{IsMoment}
 use Rattle.decimal_e.specs.Decimals.{Decimal}
 use Rattle.param_ids.specs.Tables.{ScaleMap, IsScaleMap, IsScale, standard_scales}
 use Rattle.param_ids.specs.Texts.{in_6}
 use Rattle.param_ids.proofs.Scaled.{is_scale_map_after, standard_is_scale_map, standard_len}
-use Rattle.control_doc.specs.Control.{Is, IsRead, IsControl, IsControlOf, IsPlan, IsWeight, IsSigma, IsDatum, IsDecimalIn, IsDecimalAt, with_sigma, Parts, parts_in, top_keys, file_count, no_more_than, file_name, new_name, is_listed, one, is_positive_and_short, scale_keys, scales_from, with_scale, exponent_of, table_in}
+use Rattle.control_doc.specs.Control.{Is, IsRead, IsControl, IsControlOf, IsPlan, IsWeight, IsSigma, IsDatum, IsDecimalIn, IsDecimalAt, with_sigma, Parts, parts_in, output_in, output_path, top_keys, file_count, no_more_than, file_name, new_name, is_listed, one, is_positive_and_short, scale_keys, scales_from, with_scale, exponent_of, table_in}
 use Rattle.control_doc.specs.Faults.{PlainFault, fault, or_fault, and_then, key_path}
-use Rattle.control_doc.specs.Plain.{PlainPlan, PlainDatum, PlainControl}
-use Rattle.control_doc.specs.Tables.{Entry, entries, entries_from, keys_of, only_keys, there, if_there, needed, text_needed, text_at, integer_at, table_at, tables_at}
-use Rattle.control_doc.specs.Texts.{file_text, shown, is_shown}
+use Rattle.control_doc.specs.Plain.{PlainPlan, PlainDatum, PlainOutput, PlainControl}
+use Rattle.control_doc.specs.Tables.{Entry, entries, entries_from, keys_of, only_keys, there, if_there, needed, given_or, text_needed, text_at, integer_at, table_at, tables_at}
+use Rattle.control_doc.specs.Texts.{agency_text, created_text, letter, header_text, file_text, shown, is_shown}
 use Rattle.control_doc.specs.Valid.{IsValidControl, IsFileName, AreNamed, IsPositiveAndShort, HasPositiveSigmas}
 use Rattle.control_doc.specs.Single.{alone_plan, alone_control}
 use Rattle.std.specs.declared.alloc.AllocError.{AllocError}
 use Rattle.control_doc.specs.Views.{Answers, control_view}
+use Rattle.control_doc.proofs.Created.{created_value}
 use Rattle.control_doc.specs.declared.faults.ControlCause.{ControlCause}
 use Rattle.control_doc.specs.declared.faults.ControlError.{ControlError}
 use Rattle.control_doc.specs.declared.plans.Control.{Control}
@@ -161,6 +164,23 @@ parts_value top parts h =
     let same : whole ≡ parts = ok_same whole parts g.2 in
     subst (λ (p : Parts). (1 ≤ length p.files) × ((length p.files ≤ 64) × (length (keys_of p.scale) ≤ 60))) same (counted.0, (counted.1, more_value 60 (codes "scale") scale.0 g.0 scale.2))
 
+-- ---- the time of creation
+output_value : (members : Members) (header : PlainOutput) → output_in members ≡ Ok header → IsMoment header.created
+output_value members header h =
+    let path = key_path output_path (codes "created") in
+    let a = and_value (only_keys output_path (codes "agency" ∷ codes "created" ∷ codes "technique" ∷ codes "content" ∷ codes "description" ∷ codes "output" ∷ codes "contact" ∷ []) members) _ header h in
+    let b = and_value (needed agency_text output_path (codes "agency") members) _ header a.2 in
+    let c = and_value (needed created_text output_path (codes "created") members) _ header b.2 in
+    let d = and_value (given_or 67 letter output_path (codes "technique") members) _ header c.2 in
+    let e = and_value (given_or 83 letter output_path (codes "content") members) _ header d.2 in
+    let f = and_value (given_or [] header_text output_path (codes "description") members) _ header e.2 in
+    let g = and_value (given_or [] header_text output_path (codes "output") members) _ header f.2 in
+    let i = and_value (given_or [] header_text output_path (codes "contact") members) _ header g.2 in
+    let whole : PlainOutput = record { agency = b.0; created = c.0; technique = d.0; content = e.0; description = f.0; output = g.0; contact = i.0 } in
+    let same : whole ≡ header = ok_same whole header i.2 in
+    let text = and_value (text_needed output_path (codes "created") members) (λ text. or_fault causes.Value path (created_text text)) c.0 c.1 in
+    subst (λ (o : PlainOutput). IsMoment o.created) same (created_value text.0 c.0 (or_value causes.Value path (created_text text.0) c.0 text.2))
+
 -- ---- standard deviations
 sigma_value : (path : List ℕ) (given : Option Data) (sigma : Option Decimal) → IsSigma path given (Ok sigma) → IfSome sigma IsPositiveAndShort
 sigma_value path None sigma h = let same : sigma ≡ None = ok_same sigma None h in subst (λ o. IfSome o IsPositiveAndShort) (sym same) tt
@@ -260,6 +280,7 @@ control_value top control h =
         weights = λ n d lt. (files.1.0 n d lt).1;
         sigmas = datum_value a.gives.datum e.gives e.given;
         scales = scales;
+        created = output_value a.gives.output b.gives (sym b.given);
       },
       λ n d lt. (files.1.0 n d lt).0,
     )
@@ -289,6 +310,7 @@ alone_valid name = record {
   weights = λ k d lt. by_place k d lt;
   sigmas = tt;
   scales = standard_is_scale_map;
+  created = refl;
 }
   where
     by_place : (k : ℕ) (d : PlainPlan) → k < 1 → is_positive_and_short (get_or (alone_plan name ∷ []) k d).weight ≡ true

@@ -302,7 +302,8 @@ fn files_on_desk(alloc: Global, control: &str) -> Result<MemDesk, AllocError> {
     Ok(desk)
 }
 
-// Whatever the order, the groups and the reference, one report; with the weight .5 in each file the same bounds, and half the residual.
+// Whatever the order, the groups and the reference, one report; with the weight .5 in each file the same bounds, and half the residual. The
+// combined file, solved again, has the same report.
 #[test]
 fn combines(rt: HostRuntime) -> Result<(), Fail> {
     let alloc = rt.alloc();
@@ -333,7 +334,14 @@ fn combines(rt: HostRuntime) -> Result<(), Fail> {
             "",
             Some(report.as_str()),
         )?;
-        assert_eq!(rt; desk.file("out"), Some(b"".as_slice()));
+        ends(
+            &rt,
+            &mut desk,
+            "solve out rep",
+            0,
+            "",
+            Some(report.as_str()),
+        )?;
     }
     Ok(())
 }

@@ -39,7 +39,7 @@ use Rattle.stack_rules.specs.declared.StackError.TheVariants.{Memory}
 
 -- ---- the rules from each step on
 abbrev FromPrinting : Stack → Worked → PilotTable → List ℤ → Certificate → Result Numbers StackError → Type 0
-FromPrinting s w p y c = Then (Renamed of_printing (IsPrintingStep s w y c)) (λ rows answer. answer ≡ Ok (numbers_from p c rows))
+FromPrinting s w p y c = Then (Renamed of_printing (IsPrintingStep s w p y c)) (λ rows answer. answer ≡ Ok (numbers_from p c rows))
 
 abbrev FromCertificate : Stack → Worked → PilotTable → List ℤ → Result Numbers StackError → Type 0
 FromCertificate s w p y = Then (Renamed of_certificate (IsCertificateStep s.rows (intervals_of w) p y)) (FromPrinting s w p y)
@@ -93,25 +93,25 @@ module _ (s : Stack) (w : Worked) (is : IsWorkedOf s.rows s.table w) where
         after_check : (r : Result Numbers StackError) → FromPrinting s w p y (certificate_of v) r → IsAnswer s r
         after_check r h = after_vector r (then_gives _ _ (certificate_of v) r of_v h)
 
-        print_stops : (x : PrintError) → IsPrintRefused s.rows (power_of s w) s.apriori (at y) (radius_in (certificate_of v)) x → (x ≡ print.Memory) ⊎ IsPrintingStep s w y (certificate_of v) (Err x)
+        print_stops : (x : PrintError) → IsPrintRefused s.rows (power_of s w) s.apriori (at y) (radius_in (certificate_of v)) x → (x ≡ print.Memory) ⊎ IsPrintingStep s w p y (certificate_of v) (Err x)
         print_stops (print.Range row) h = inr h
         print_stops print.Memory h = inl refl
 
         pub print_refused : (x : PrintError) → IsPrintRefused w.table.size (power_of s w) s.apriori (at y) (radius_in (certificate_of v)) x → IsRefusedWith s (of_printing x)
         print_refused x h =
-            refused s of_printing print.Memory x (IsPrintingStep s w y (certificate_of v)) (λ rows answer. answer ≡ Ok (numbers_from p (certificate_of v) rows)) refl after_check
+            refused s of_printing print.Memory x (IsPrintingStep s w p y (certificate_of v)) (λ rows answer. answer ≡ Ok (numbers_from p (certificate_of v) rows)) refl after_check
             (print_stops x (subst (λ n. IsPrintRefused n (power_of s w) s.apriori (at y) (radius_in (certificate_of v)) x) is.size h))
 
-        pub answered : (rows : List Printed) → ArePrinted w.table.size (intervals_of w) (power_of s w) s.apriori (at y) (radius_in (certificate_of v)) rows
+        pub answered : (rows : List Printed) → ArePrinted w.table.size (intervals_of w) p (power_of s w) s.apriori (at y) (radius_in (certificate_of v)) rows
             → (g : ℕ) → g ≡ p.g → IsAnswer s (Ok (record { g = g; parts = v.b; error = v.m; rows = rows }))
         answered rows h g scale = after_check _ (then_gives _ _ rows _
-            (subst (λ n. ArePrinted n (intervals_of w) (power_of s w) s.apriori (at y) (radius_in (certificate_of v)) rows) is.size h)
+            (subst (λ n. ArePrinted n (intervals_of w) p (power_of s w) s.apriori (at y) (radius_in (certificate_of v)) rows) is.size h)
             (ap (λ k. Ok (record { g = k; parts = v.b; error = v.m; rows = rows })) scale))
 
 -- ---- what is printed is certified
-pub certified_by : (n m : ℕ) (stack w : Table) (e t : ℕ → ℤ) (x0 : ℕ → Decimal) (y z : List ℤ) (r : ℕ → ℕ) (ps : List Printed) → m ≡ n → z ≡ y
-    → CarriesSystems n stack w e → Encloses m w (at z) r → ArePrinted m w (λ i. e i +ℤ t i) x0 (at y) r ps → AreCertified n stack t x0 (numbers_at ps)
-certified_by n m stack w e t x0 y z r ps len same carries encloses printed =
-    certified n stack w e t x0 (at y) r ps carries
+pub certified_by : (n m : ℕ) (stack w : Table) (e t : ℕ → ℤ) (p : PilotTable) (x0 : ℕ → Decimal) (y z : List ℤ) (r : ℕ → ℕ) (ps : List Printed) → m ≡ n → z ≡ y
+    → CarriesSystems n stack w e → Encloses m w (at z) r → ArePrinted m w p (λ i. e i +ℤ t i) x0 (at y) r ps → AreCertified n stack t x0 (numbers_at ps)
+certified_by n m stack w e t p x0 y z r ps len same carries encloses printed =
+    certified n stack w e t p x0 (at y) r ps carries
     (subst (λ k. Encloses k w (at y) r) len (subst (λ ys. Encloses m w (at ys) r) same encloses))
-    (subst (λ k. ArePrinted k w (λ i. e i +ℤ t i) x0 (at y) r ps) len printed)
+    (subst (λ k. ArePrinted k w p (λ i. e i +ℤ t i) x0 (at y) r ps) len printed)

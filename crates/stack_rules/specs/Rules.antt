@@ -23,10 +23,10 @@ abbrev pub power_of : Stack → Worked → ℕ → ℤ
 power_of s w i = exponent_of w.exponents i +ℤ s.scales i
 
 -- the printed numbers of all rows, or the first row whose numbers can't be printed
-abbrev pub IsPrintingStep : Stack → Worked → List ℤ → Certificate → Result (List Printed) PrintError → Type 0
-IsPrintingStep s w y c (Ok rows) = ArePrinted s.rows (intervals_of w) (power_of s w) s.apriori (at y) (radius_in c) rows
-IsPrintingStep s w y c (Err (print.Range row)) = IsPrintRefused s.rows (power_of s w) s.apriori (at y) (radius_in c) (print.Range row)
-IsPrintingStep s w y c (Err print.Memory) = ⊥
+abbrev pub IsPrintingStep : Stack → Worked → PilotTable → List ℤ → Certificate → Result (List Printed) PrintError → Type 0
+IsPrintingStep s w p y c (Ok rows) = ArePrinted s.rows (intervals_of w) p (power_of s w) s.apriori (at y) (radius_in c) rows
+IsPrintingStep s w p y c (Err (print.Range row)) = IsPrintRefused s.rows (power_of s w) s.apriori (at y) (radius_in c) (print.Range row)
+IsPrintingStep s w p y c (Err print.Memory) = ⊥
 
 -- ---- all steps
 -- the numbers of a report: the pilot's scale, the greatest defect and the greatest error, and the rows
@@ -51,7 +51,7 @@ IsAnswer s =
     Then (Renamed of_pilot (IsPilotStep s.rows (midpoints_of w))) (λ p.
     Then (Renamed of_vector (IsVectorStep s.rows (intervals_of w) p)) (λ y.
     Then (Renamed of_certificate (IsCertificateStep s.rows (intervals_of w) p y)) (λ c.
-    Then (Renamed of_printing (IsPrintingStep s w y c)) (λ rows answer.
+    Then (Renamed of_printing (IsPrintingStep s w p y c)) (λ rows answer.
     answer ≡ Ok (numbers_from p c rows))))))
 
 -- a refusal of the rules, or want of memory

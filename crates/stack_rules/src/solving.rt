@@ -1,11 +1,11 @@
 //! The steps, one after another.
 
-ghost use Rattle.std.specs.Prelude.{◌≡◌, ◌≤◌, ◌<◌, ◌^◌, ℕ, length, IfOk, IfErr, Ok};
+ghost use Rattle.std.specs.Prelude.{◌≡◌, ◌≤◌, ◌<◌, ◌^◌, ℕ, length, All, IfOk, IfErr, Ok};
 ghost use Rattle.whole_numbers.specs.Lists.{at};
 ghost use Rattle.decimal_e.specs.Fractions.{IsAtMost};
 ghost use Rattle.equil.specs.Tables.{table_of};
 ghost use Rattle.bounds_report.specs.Bounds.{AreCertified};
-ghost use Rattle.bounds_report.specs.Printing.{AreScaleExponents, decimal_at, numbers_at};
+ghost use Rattle.bounds_report.specs.Printing.{AreScaleExponents, decimal_at, numbers_at, HasSmallDeviation};
 ghost use Rattle.stack_rules.specs.Rules.{IsAnswer, IsRefusedWith, numbers_in};
 ghost use Rattle.stack_rules.specs.Stacks.{stack_of};
 
@@ -22,7 +22,7 @@ use std::thread::Threads;
 use sym_blocks::SymBlock;
 
 /// The numbers of the stack's report. They are certified: each solution of each system in the stack lies between the printed
-/// bounds, two solutions are equal, and the estimates leave at most the printed residuals.
+/// bounds, two solutions are equal, and the estimates leave at most the printed residuals. The deviations are not certified.
 ///
 /// A refusal comes exactly where a rule refuses, with the first cause. The number of workers is from 1 to 16.
 pub fn certify<R: Threads + Sync, const N: usize>(
@@ -44,6 +44,7 @@ pub fn certify<R: Threads + Sync, const N: usize>(
     ensures answer { IfOk result (λ s. IsAnswer (stack_of table.now right.now apriori.now scales.now) (Ok (numbers_in s))) }
     ensures refused { IfErr result (IsRefusedWith (stack_of table.now right.now apriori.now scales.now)) }
     ensures certified { IfOk result (λ s. AreCertified table.now.size (table_of table.now right.now) (at scales.now) (decimal_at apriori.now) (numbers_at s.rows.items)) }
+    ensures deviations { IfOk result (λ s. All HasSmallDeviation s.rows.items) }
 {
     let w = working(alloc, table, right)?;
     let pilot = pilot(rt, alloc, &w, workers)?;

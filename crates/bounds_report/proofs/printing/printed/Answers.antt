@@ -10,7 +10,7 @@ new-requires g c =
     let e = c.args.e.now in
     let q = c.requires in
     let small : IsSmall w.a.size (at e.y.items) = subst (λ n. IsSmall n (at e.y.items)) q.rows e.small in
-    let rows = are_rows w.a.size w.e.items c.args.scales.now c.args.apriori.now e.y.items e.radius.w.items (omega (arith, w.powers, w.e.ok.0)) q.scales q.len (omega (arith, q.rows, e.numbers, e.y.ok.0)) (omega (arith, q.rows, e.radii, e.radius.w.ok.0)) w.in_range q.scaled q.modest small e.radius.bounded in
+    let rows = are_rows w.a.size w.e.items c.args.scales.now c.args.apriori.now e.y.items e.radius.w.items e.pilot (omega (arith, w.powers, w.e.ok.0)) q.scales q.len (omega (arith, q.rows, e.numbers, e.y.ok.0)) (omega (arith, q.rows, e.radii, e.radius.w.ok.0)) w.in_range q.scaled q.modest small e.radius.bounded q.rows in
     rw (c.deref.ensures.value, c.deref-2.ensures.value, c.deref-3.ensures.value) rows
 
 pub returns-clause-printed : goal.returns-clause-printed

@@ -1,18 +1,21 @@
-use Rattle.std.proofs.Common.{◌≡◌, Bor, Option, Some, None, map, length, ap, sym, subst, arith}
+use Rattle.std.proofs.Common.{◌≡◌, ◌∙◌, ℕ, List, Bor, Option, Some, None, Ok, Err, map, length, ap, sym, subst, refl}
 use Rattle.std.specs.Option.{IfSome, option_map, option_copied}
-use Rattle.std.specs.String.{string_bytes}
-use Rattle.std.proofs.lemmas.List.{length-map}
 use Rattle.std.proofs.lemmas.Result.{err_from_is_err_and}
 use Rattle.control_doc.specs.Valid.{HasPositiveSigmas}
 use Rattle.control_doc.specs.Views.{datum_view, control_view}
 use Rattle.control_doc.specs.declared.plans.Datum.{Datum}
-use Rattle.neq_stack.specs.Neqs.{neq_view}
+use Rattle.neq_stack.specs.Neqs.{PlainNeq, neq_view}
+use Rattle.stack_rules.specs.Rules.{numbers_in}
+use Rattle.bounds_text.specs.Report.{numbers_report}
+use Rattle.site_merge.specs.Answers.{sites_view}
+use Rattle.site_merge.specs.Merged.{IsMerge}
 use Rattle.run_inputs.specs.Views.{input_view}
-use Rattle.combine_cli.specs.Combination.{counted_rows}
-use Rattle.combine_cli.specs.Parts.{part_view}
-use Rattle.combine_cli.proofs.Agreement.{parts_agree, parts_known, parts_as_many}
-use Rattle.combine_cli.proofs.ExactSystems.{is_certified_report}
-use Rattle.combine_cli.proofs.CombinedLaws.{no_common, no_parts, no_stack, no_datum, no_report, combined_by}
+use Rattle.run_inputs.specs.declared.inputs.Input.{Input}
+use Rattle.combine_cli.specs.Combination.{Solves}
+use Rattle.combine_cli.specs.Headline.{AreCertifiedOf}
+use Rattle.combine_cli.specs.Parts.{added_view, names_in, docs_in}
+use Rattle.combine_cli.proofs.ExactSystems.{names_added, is_certified_report}
+use Rattle.combine_cli.proofs.CombinedLaws.{no_datum, not_solved, combined_by}
 use Rattle.combine_cli.proofs.combining.combine_core.Goals as goal
 
 -- ---- the datum, as a reference to what the control has
@@ -28,109 +31,70 @@ positive_seen (Some given) datum e h = subst (λ (o : Option Datum). IfSome (opt
 pub with_datum-requires-clause-positive : goal.with_datum-requires-clause-positive
 with_datum-requires-clause-positive g c = positive_seen c.as_ref.result c.args.control.now.datum c.as_ref.ensures.value c.requires.positive
 
--- ---- the stack of the parts
-pub stack_of_parts-requires-clause-sound : goal.stack_of_parts-requires-clause-sound
-stack_of_parts-requires-clause-sound g c =
-    let inputs = map input_view c.args.inputs.items in
-    let base = counted_rows (string_bytes c.args.control.now.reference) inputs in
-    let each = c.in_ok-parts.ensures.each base (rw (c.as_str.ensures.value, c.deref.ensures.value) at c.in_ok-base.ensures.first) in
-    rw c.deref-2.ensures.value (parts_known c.args.control.now.scales base inputs (map part_view c.in_ok-parts.parts.items) each).0
-
-pub stack_of_parts-requires-clause-agree : goal.stack_of_parts-requires-clause-agree
-stack_of_parts-requires-clause-agree g c =
-    let reference = string_bytes c.args.control.now.reference in
-    let inputs = map input_view c.args.inputs.items in
-    let base = counted_rows reference inputs in
-    let common = rw (c.as_str.ensures.value, c.deref.ensures.value) at c.in_ok-base.ensures.common in
-    let each = c.in_ok-parts.ensures.each base (rw (c.as_str.ensures.value, c.deref.ensures.value) at c.in_ok-base.ensures.first) in
-    rw c.deref-2.ensures.value (parts_agree reference c.args.control.now.scales base inputs common (map part_view c.in_ok-parts.parts.items) each)
-
-pub stack_of_parts-requires-clause-modest : goal.stack_of_parts-requires-clause-modest
-stack_of_parts-requires-clause-modest g c =
-    let inputs = map input_view c.args.inputs.items in
-    let base = counted_rows (string_bytes c.args.control.now.reference) inputs in
-    let each = c.in_ok-parts.ensures.each base (rw (c.as_str.ensures.value, c.deref.ensures.value) at c.in_ok-base.ensures.first) in
-    rw c.deref-2.ensures.value (parts_known c.args.control.now.scales base inputs (map part_view c.in_ok-parts.parts.items) each).1
-
-pub stack_of_parts-requires-clause-few : goal.stack_of_parts-requires-clause-few
-stack_of_parts-requires-clause-few g c =
-    let parts = c.in_ok-parts.parts.items in
-    let files = c.args.inputs.items in
-    let inputs = map input_view files in
-    let base = counted_rows (string_bytes c.args.control.now.reference) inputs in
-    let each = c.in_ok-parts.ensures.each base (rw (c.as_str.ensures.value, c.deref.ensures.value) at c.in_ok-base.ensures.first) in
-    let as_many = parts_as_many c.args.control.now.scales base inputs (map part_view parts) each in
-    omega (arith, ap length c.deref-2.ensures.value, as_many, length-map parts part_view, length-map files input_view, c.requires.few)
-
 -- ---- refusals
-pub returns-in_err-base-clause-refused : goal.returns-in_err-base-clause-refused
-returns-in_err-base-clause-refused g c =
-    let p = err_from_is_err_and c.from_residual.result c.from_residual.ensures.1 in
-    rw (p.1, p.2) (λ a b.
-    no_common (control_view c.args.control.now) (map input_view c.args.inputs.items) _ (rw (c.as_str.ensures.value, c.deref.ensures.value) at (c.in_err-base.ensures.refused a b)))
+pub returns-in_err-free-clause-refused : goal.returns-in_err-free-clause-refused
+returns-in_err-free-clause-refused g c =
+    let p = err_from_is_err_and c.from_residual-in_err-free.result c.from_residual-in_err-free.ensures.1 in
+    rw (p.1, p.2) (λ a b. c.in_err-free.ensures.refused a b c.args.whole)
 
-pub returns-in_err-parts-clause-refused : goal.returns-in_err-parts-clause-refused
-returns-in_err-parts-clause-refused g c =
-    let p = err_from_is_err_and c.from_residual-in_err-parts.result c.from_residual-in_err-parts.ensures.1 in
-    let inputs = map input_view c.args.inputs.items in
-    let base = counted_rows (string_bytes c.args.control.now.reference) inputs in
-    let common = rw (c.as_str.ensures.value, c.deref.ensures.value) at c.in_ok-base.ensures.common in
-    let first = rw (c.as_str.ensures.value, c.deref.ensures.value) at c.in_ok-base.ensures.first in
-    rw (p.1, p.2) (λ a b. no_parts (control_view c.args.control.now) inputs base common _ (c.in_err-parts.ensures.refused base first a b))
-
-pub returns-in_err-neq-clause-refused : goal.returns-in_err-neq-clause-refused
-returns-in_err-neq-clause-refused g c =
-    let p = err_from_is_err_and c.from_residual-in_err-neq.result c.from_residual-in_err-neq.ensures.1 in
-    let inputs = map input_view c.args.inputs.items in
-    let base = counted_rows (string_bytes c.args.control.now.reference) inputs in
-    let common = rw (c.as_str.ensures.value, c.deref.ensures.value) at c.in_ok-base.ensures.common in
-    let first = rw (c.as_str.ensures.value, c.deref.ensures.value) at c.in_ok-base.ensures.first in
-    rw (p.1, p.2) (λ a b.
-    no_stack (control_view c.args.control.now) inputs base common (map part_view c.in_ok-parts.parts.items) (c.in_ok-parts.ensures.parts base first) _ (rw c.deref-2.ensures.value at (c.in_err-neq.ensures.refused a b)))
-
-pub returns-in_err-with_datum-clause-refused : goal.returns-in_err-with_datum-clause-refused
-returns-in_err-with_datum-clause-refused g c =
-    let p = err_from_is_err_and c.from_residual-in_err-with_datum.result c.from_residual-in_err-with_datum.ensures.1 in
-    let inputs = map input_view c.args.inputs.items in
-    let base = counted_rows (string_bytes c.args.control.now.reference) inputs in
-    let common = rw (c.as_str.ensures.value, c.deref.ensures.value) at c.in_ok-base.ensures.common in
-    let first = rw (c.as_str.ensures.value, c.deref.ensures.value) at c.in_ok-base.ensures.first in
+pub returns-in_err-added-clause-refused : goal.returns-in_err-added-clause-refused
+returns-in_err-added-clause-refused g c =
+    let p = err_from_is_err_and c.from_residual-in_err-added.result c.from_residual-in_err-added.ensures.1 in
     let datum = seen c.as_ref.result c.args.control.now.datum c.as_ref.ensures.value in
-    rw (p.1, p.2) (λ a b.
-    no_datum (control_view c.args.control.now) inputs base common (map part_view c.in_ok-parts.parts.items) (c.in_ok-parts.ensures.parts base first) (neq_view c.in_ok-neq.neq)
-    (rw c.deref-2.ensures.value at c.in_ok-neq.ensures.stacked) _ (rw datum at (c.in_err-with_datum.ensures.refused a b)))
+    rw (p.1, p.2) (λ a b. no_datum c.args.whole (control_view c.args.control.now) (map input_view c.args.inputs.items) (neq_view c.in_ok-free.free) c.in_ok-free.ensures.summed _ (rw datum at (c.in_err-added.ensures.refused a b)))
 
-pub returns-in_err-report-clause-refused : goal.returns-in_err-report-clause-refused
-returns-in_err-report-clause-refused g c =
-    let p = err_from_is_err_and c.from_residual-in_err-report.result c.from_residual-in_err-report.ensures.1 in
-    let inputs = map input_view c.args.inputs.items in
-    let base = counted_rows (string_bytes c.args.control.now.reference) inputs in
-    let common = rw (c.as_str.ensures.value, c.deref.ensures.value) at c.in_ok-base.ensures.common in
-    let first = rw (c.as_str.ensures.value, c.deref.ensures.value) at c.in_ok-base.ensures.first in
+pub returns-in_err-numbers-clause-refused : goal.returns-in_err-numbers-clause-refused
+returns-in_err-numbers-clause-refused g c =
+    let p = err_from_is_err_and c.from_residual-in_err-numbers.result c.from_residual-in_err-numbers.ensures.1 in
     let datum = seen c.as_ref.result c.args.control.now.datum c.as_ref.ensures.value in
+    let neq = added_view (neq_view c.in_ok-free.free) c.in_ok-added.added in
     rw (p.1, p.2) (λ a b.
-    no_report (control_view c.args.control.now) inputs base common (map part_view c.in_ok-parts.parts.items) (c.in_ok-parts.ensures.parts base first) (neq_view c.in_ok-neq.neq)
-    (rw c.deref-2.ensures.value at c.in_ok-neq.ensures.stacked) (neq_view c.with_datum.new.neq) (rw datum at c.in_ok-with_datum.ensures.added) _ (c.in_err-report.ensures.refused a b))
+    not_solved c.args.whole (control_view c.args.control.now) (map input_view c.args.inputs.items) (neq_view c.in_ok-free.free) c.in_ok-free.ensures.summed neq (rw datum at c.in_ok-added.ensures.added) _
+    (subst (λ (n : PlainNeq). Solves n (Err c.in_err-numbers.field-0.0)) c.solved_stack-neq.ensures (c.in_err-numbers.ensures.refused a b)))
 
--- ---- texts
+pub returns-in_err-out-clause-refused : goal.returns-in_err-out-clause-refused
+returns-in_err-out-clause-refused g c =
+    let p = err_from_is_err_and c.from_residual-in_err-out.result c.from_residual-in_err-out.ensures.1 in
+    rw (p.1, p.2) (λ a b. absurd (a refl))
+
+-- ---- the texts
+pub out_of-requires-clause-rows : goal.out_of-requires-clause-rows
+out_of-requires-clause-rows g c =
+    let datum = seen c.as_ref.result c.args.control.now.datum c.as_ref.ensures.value in
+    let free = neq_view c.in_ok-free.free in
+    let neq = added_view free c.in_ok-added.added in
+    let same = names_added (control_view c.args.control.now).datum free neq (rw datum at c.in_ok-added.ensures.added) in
+    c.in_ok-numbers.ensures.rows ∙ ap (λ (n : PlainNeq). length n.names) c.solved_stack-neq.ensures ∙ ap length same.names
+
 pub returns-clause-combined : goal.returns-clause-combined
 returns-clause-combined g c =
-    let inputs = map input_view c.args.inputs.items in
-    let base = counted_rows (string_bytes c.args.control.now.reference) inputs in
-    let common = rw (c.as_str.ensures.value, c.deref.ensures.value) at c.in_ok-base.ensures.common in
-    let first = rw (c.as_str.ensures.value, c.deref.ensures.value) at c.in_ok-base.ensures.first in
     let datum = seen c.as_ref.result c.args.control.now.datum c.as_ref.ensures.value in
-    rw c.new.ensures.items
-    (combined_by (control_view c.args.control.now) inputs base common (map part_view c.in_ok-parts.parts.items) (c.in_ok-parts.ensures.parts base first) (neq_view c.in_ok-neq.neq)
-    (rw c.deref-2.ensures.value at c.in_ok-neq.ensures.stacked) (neq_view c.with_datum.new.neq) (rw datum at c.in_ok-with_datum.ensures.added) c.in_ok-report.report.items c.in_ok-report.ensures.report)
+    let inputs = map input_view c.args.inputs.items in
+    let free = neq_view c.in_ok-free.free in
+    let neq = added_view free c.in_ok-added.added in
+    let numbers = numbers_in c.in_ok-numbers.numbers in
+    let names : map (λ name. name.now) c.deref-4.result.now ≡ names_in inputs =
+    ap (map (λ (name : Bor (List ℕ)). name.now)) c.deref-4.ensures.value ∙ c.in_ok-files.ensures ∙ ap (λ (files : List Input). names_in (map input_view files)) c.deref.ensures.value in
+    let merged : IsMerge (docs_in inputs) (sites_view c.in_ok-sites.sites) = subst (λ (files : List Input). IsMerge (docs_in (map input_view files)) (sites_view c.in_ok-sites.sites)) c.deref-2.ensures.value c.in_ok-sites.ensures in
+    let told : c.in_ok-report.report.items ≡ numbers_report neq.names neq.units numbers =
+    c.in_ok-report.ensures ∙ ap (λ (units : List (List ℕ)). numbers_report c.solved_stack-neq.result.now.names units numbers) c.deref-3.ensures.value
+    ∙ ap (λ (n : PlainNeq). numbers_report n.names n.units numbers) c.solved_stack-neq.ensures in
+    combined_by c.args.whole (control_view c.args.control.now) inputs free c.in_ok-free.ensures.summed neq (rw datum at c.in_ok-added.ensures.added) numbers
+    (record { out = c.in_ok-out.out.items; report = c.in_ok-report.report.items })
+    (subst (λ (n : PlainNeq). Solves n (Ok numbers)) c.solved_stack-neq.ensures c.in_ok-numbers.ensures.solves) (c.in_ok-out.ensures inputs names merged, told)
 
 pub returns-clause-certified : goal.returns-clause-certified
 returns-clause-certified g c =
-    let inputs = map input_view c.args.inputs.items in
-    let base = counted_rows (string_bytes c.args.control.now.reference) inputs in
-    let common = rw (c.as_str.ensures.value, c.deref.ensures.value) at c.in_ok-base.ensures.common in
-    let first = rw (c.as_str.ensures.value, c.deref.ensures.value) at c.in_ok-base.ensures.first in
     let datum = seen c.as_ref.result c.args.control.now.datum c.as_ref.ensures.value in
-    is_certified_report (control_view c.args.control.now) inputs base (map part_view c.in_ok-parts.parts.items) (neq_view c.in_ok-neq.neq) (neq_view c.with_datum.new.neq) common
-    (c.in_ok-parts.ensures.each base first) (rw c.deref-2.ensures.value at c.in_ok-neq.ensures.whole) c.requires.positive c.in_ok-with_datum.ensures.sound (rw datum at c.in_ok-with_datum.ensures.added)
-    c.in_ok-report.report.items (c.in_ok-parts.ensures.parts base first) c.in_ok-report.ensures.certified
+    let inputs = map input_view c.args.inputs.items in
+    let free = neq_view c.in_ok-free.free in
+    let neq = added_view free c.in_ok-added.added in
+    let numbers = numbers_in c.in_ok-numbers.numbers in
+    let summed = c.in_ok-free.ensures.summed in
+    let told : c.in_ok-report.report.items ≡ numbers_report neq.names neq.units numbers =
+    c.in_ok-report.ensures ∙ ap (λ (units : List (List ℕ)). numbers_report c.solved_stack-neq.result.now.names units numbers) c.deref-3.ensures.value
+    ∙ ap (λ (n : PlainNeq). numbers_report n.names n.units numbers) c.solved_stack-neq.ensures in
+    is_certified_report (control_view c.args.control.now) inputs summed.base summed.parts free neq summed.common summed.each summed.whole c.requires.positive c.in_ok-added.ensures.sound
+    (rw datum at c.in_ok-added.ensures.added) numbers c.in_ok-report.report.items summed.are
+    (subst (λ (n : PlainNeq). Solves n (Ok numbers)) c.solved_stack-neq.ensures c.in_ok-numbers.ensures.solves)
+    (subst (λ (n : PlainNeq). AreCertifiedOf n numbers) c.solved_stack-neq.ensures c.in_ok-numbers.ensures.certified) told

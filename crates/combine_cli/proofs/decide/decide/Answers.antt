@@ -20,7 +20,7 @@ returns-in_err-texts-clause-refused g c = λ tells.
     let p = err_from_is_err_and c.from_residual-in_err-texts.result c.from_residual-in_err-texts.ensures.1 in
     rw (p.1, p.2) (λ a b.
     combining_refused (map string_bytes c.args.words.now) _ _ (command_view c.in_ok-command.command) (control_view c.in_ok-control.control) c.in_ok-command.ensures.command
-    (c.in_ok-control.ensures.control tells) (c.in_ok-control.ensures.keeps tells) _ (c.in_err-texts.ensures.refused tells a b))
+    (c.in_ok-control.ensures.control tells) (c.in_ok-control.ensures.keeps tells) _ (rw c.writes_out.ensures at (c.in_err-texts.ensures.refused tells a b)))
 
 pub returns-in_err-outputs-clause-refused : goal.returns-in_err-outputs-clause-refused
 returns-in_err-outputs-clause-refused g c = λ tells.
@@ -31,4 +31,4 @@ pub returns-clause-planned : goal.returns-clause-planned
 returns-clause-planned g c = λ tells.
     planned_of (map string_bytes c.args.words.now) _ _ (command_view c.in_ok-command.command) (control_view c.in_ok-control.control) c.in_ok-command.ensures.command
     (c.in_ok-control.ensures.control tells) (c.in_ok-control.ensures.keeps tells) (texts_view c.in_ok-texts.texts) (map named_text c.in_ok-outputs.outputs.items)
-    (c.in_ok-texts.ensures.texts tells) c.in_ok-outputs.ensures
+    (rw c.writes_out.ensures at (c.in_ok-texts.ensures.texts tells)) c.in_ok-outputs.ensures

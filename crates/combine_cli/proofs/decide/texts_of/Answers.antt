@@ -13,13 +13,13 @@ combine_core-requires-clause-weights g c = λ lives within.
 pub returns-in_err-inputs-clause-refused : goal.returns-in_err-inputs-clause-refused
 returns-in_err-inputs-clause-refused g c = λ tells.
     let p = err_from_is_err_and c.from_residual.result c.from_residual.ensures.1 in
-    rw (p.1, p.2) (λ a b. inputs_refused (control_view c.args.control.now) _ _ (c.in_err-inputs.ensures.refused tells a b))
+    rw (p.1, p.2) (λ a b. inputs_refused c.args.whole (control_view c.args.control.now) _ _ (c.in_err-inputs.ensures.refused tells a b))
 
 pub returns-clause-texts : goal.returns-clause-texts
 returns-clause-texts g c = λ tells.
-    texts_known (control_view c.args.control.now) _ (map input_view c.in_ok-inputs.inputs.items) (c.in_ok-inputs.ensures.inputs tells) c.combine_core.result c.combine_core.ensures.combined
+    texts_known c.args.whole (control_view c.args.control.now) _ (map input_view c.in_ok-inputs.inputs.items) (c.in_ok-inputs.ensures.inputs tells) c.combine_core.result c.combine_core.ensures.combined
     c.combine_core.ensures.certified
 
 pub returns-clause-refused : goal.returns-clause-refused
 returns-clause-refused g c = λ tells.
-    texts_refused (control_view c.args.control.now) _ (map input_view c.in_ok-inputs.inputs.items) (c.in_ok-inputs.ensures.inputs tells) c.combine_core.result c.combine_core.ensures.refused
+    texts_refused c.args.whole (control_view c.args.control.now) _ (map input_view c.in_ok-inputs.inputs.items) (c.in_ok-inputs.ensures.inputs tells) c.combine_core.result c.combine_core.ensures.refused

@@ -98,5 +98,5 @@ returns-clause-certified g c =
     let v = c.in_ok-radius.radius in
     let z = c.deref-3.result.now in
     let encloses = of_equal (λ b d. Encloses b.size (table_of b d) (at z) (radius_at v)) c.in_ok-table_rows.table_rows.table.now w.a c.deref-2.result.now w.d.items c.in_ok-table_rows.ensures c.deref-2.ensures.value c.in_ok-radius.ensures.encloses in
-    certified_by c.args.table.now.size w.a.size (table_of c.args.table.now c.args.right.now) (table_of w.a w.d.items) (exponent_of w.e.items) (at c.args.scales.now) (decimal_at c.args.apriori.now) c.in_ok-y.y.items z (radius_at v) c.in_ok-rows.rows.items
+    certified_by c.args.table.now.size w.a.size (table_of c.args.table.now c.args.right.now) (table_of w.a w.d.items) (exponent_of w.e.items) (at c.args.scales.now) c.in_ok-pilot.pilot (decimal_at c.args.apriori.now) c.in_ok-y.y.items z (radius_at v) c.in_ok-rows.rows.items
     c.in_ok-w.ensures.size c.deref-3.ensures.value c.in_ok-w.ensures.systems encloses c.in_ok-rows.ensures.printed

@@ -1,0 +1,9 @@
+pub mod Alone
+pub mod EpochLaws
+pub mod LineLaws
+pub mod Listed
+pub mod Loops
+pub mod MiddleLaws
+pub mod MomentLaws
+pub mod NameOrders
+pub mod OneSortedList

@@ -1,0 +1,5 @@
+mod Lines
+mod MatrixLines
+mod ParameterLines
+mod Printable
+mod Tiny

@@ -1,0 +1,106 @@
+//! The first line, and what is said of the file as a whole.
+
+ghost use Rattle.std.specs.Prelude.{◌≡◌, ◌≤◌, ◌<◌, ◌++◌, ◌∷◌, [], is_some, map, length, OnOk};
+ghost use Rattle.snx_epoch.specs.Moments.{IsMoment};
+ghost use Rattle.control_doc.specs.Views.{control_view};
+ghost use Rattle.snx_write.specs.Combined as spec;
+ghost use Rattle.snx_write.specs.Combined.{text_of};
+
+use crate::fields::{constraint_code, count_field, five_digits, push_line, what_field};
+use control_doc::Control;
+use site_merge::span;
+use snx_epoch::print_epoch;
+use snx_sites::EpochRow;
+use std::alloc::AllocError;
+
+/// Whether a control has a datum.
+fn has_datum(control: &Control) -> bool
+    ensures { result ≡ is_some (control_view control.now).datum }
+{
+    match control.datum {
+        Some(_) => true,
+        None => false,
+    }
+}
+
+/// Appends the first line of a file with so many parameters.
+pub(crate) fn push_first_line(
+    out: &mut Vec<u8>,
+    control: &Control,
+    moments: &[EpochRow],
+    count: usize,
+) -> Result<(), AllocError>
+    requires created { IsMoment control.now.created }
+    requires count { count < 100000 }
+    ensures { OnOk result (out.new.items ≡ out.old.items ++ text_of (spec.first_line (control_view control.now) moments.now count ∷ [])) }
+{
+    let (start, end) = span(moments);
+    let others: [&[u8]; 10] = [
+        b"2.02",
+        &control.agency,
+        &print_epoch(&control.created),
+        &control.agency,
+        &print_epoch(&start),
+        &print_epoch(&end),
+        &[control.technique],
+        &five_digits(count),
+        &constraint_code(has_datum(control)),
+        &[control.content],
+    ];
+    push_line(out, b"%=SNX", &others)
+}
+
+/// Appends a line of FILE/REFERENCE, where its text is given.
+fn push_given(out: &mut Vec<u8>, what: &[u8], text: &[u8]) -> Result<(), AllocError>
+    requires { length what.now ≤ 18 }
+    ensures { OnOk result (out.new.items ≡ out.old.items ++ text_of (spec.given_line what.now text.now)) }
+{
+    if text.is_empty() {
+        return Ok(());
+    }
+    push_line(out, b"", &[&what_field(what), text])
+}
+
+/// Appends FILE/REFERENCE.
+pub(crate) fn push_references(out: &mut Vec<u8>, control: &Control) -> Result<(), AllocError>
+    ensures { OnOk result (out.new.items ≡ out.old.items ++ text_of (spec.reference_block (control_view control.now).header)) }
+{
+    push_line(out, b"+FILE/REFERENCE", &[])?;
+    push_given(out, b"DESCRIPTION", control.description.as_bytes())?;
+    push_given(out, b"OUTPUT", control.output.as_bytes())?;
+    push_given(out, b"CONTACT", control.contact.as_bytes())?;
+    push_given(out, b"SOFTWARE", b"snxcomb")?;
+    push_line(out, b"-FILE/REFERENCE", &[])
+}
+
+/// Appends the lines of these names.
+fn push_names(out: &mut Vec<u8>, files: &[&str]) -> Result<(), AllocError>
+    ensures { OnOk result (out.new.items ≡ out.old.items ++ text_of (map spec.comment_line (map (λ file. file.now) files.now))) }
+{
+    for file in files {
+        push_line(out, b"", &[b"INPUT", file.as_bytes()])?;
+    }
+    Ok(())
+}
+
+/// Appends FILE/COMMENT, with the names of the files.
+pub(crate) fn push_comments(out: &mut Vec<u8>, files: &[&str]) -> Result<(), AllocError>
+    ensures { OnOk result (out.new.items ≡ out.old.items ++ text_of (spec.comment_block (map (λ file. file.now) files.now))) }
+{
+    push_line(out, b"+FILE/COMMENT", &[])?;
+    push_names(out, files)?;
+    push_line(out, b"-FILE/COMMENT", &[])
+}
+
+/// Appends SOLUTION/STATISTICS, with the number of parameters.
+pub(crate) fn push_statistics(out: &mut Vec<u8>, count: usize) -> Result<(), AllocError>
+    ensures { OnOk result (out.new.items ≡ out.old.items ++ text_of (spec.statistics_block count)) }
+{
+    push_line(out, b"+SOLUTION/STATISTICS", &[])?;
+    push_line(
+        out,
+        b"",
+        &[b"NUMBER OF UNKNOWNS            ", &count_field(count)],
+    )?;
+    push_line(out, b"-SOLUTION/STATISTICS", &[])
+}
