@@ -5,6 +5,7 @@
     bench/times.py inverse [ROWS ..]    the enclosed inverse, as of covariances; the default is 300 and 900 rows
     bench/times.py solve [ROWS ..]      the whole program on files that bench/make_file.py writes; the default is 30, 300 and 900
     bench/times.py read [ROWS ..]       reading such files, with one value on a matrix line and with three; the default is 900
+    bench/times.py write [ROWS ..]      writing the combined file of a stack that is made; the default is 900 rows
     bench/times.py combine [FILES ROWS SHARED]   a combination of networks; the default is 8 files of 300 unknowns, 210 in all
     bench/times.py values [FILES ROWS]  the way to common a priori values, and a datum; the default is 8 files of 900 unknowns
     bench/times.py memory [FILES ROWS SHARED]    the memory of one; the default is 64 files of 900 unknowns, 30 in all
@@ -13,10 +14,12 @@ It proves and builds crates/step_times and the program first, and compiles the y
 times, in turn with the yardstick, and the least time of each step counts; a combination runs three times, and the median counts.
 Times are of the wall clock, in milliseconds; memory is the greatest resident set of the process, and at least this script's own,
 from which it starts. The columns are the pilot without its factor. The defects are the certificate whole, with its working
-copies, its errors and its radii. Reading is beside bench/reading.cpp, which tests nothing of what it reads. Of a combination the
-rest is what remains of the whole after reading and recovery: the sum, its solution and the writing. The memory is measured of one
-run, which may end with a refusal. For common values and a datum, runs that end with a refusal after these steps are compared with
-runs that do not have them, beside the recovery of a file.
+copies, its errors and its radii. Reading is beside bench/reading.cpp, which tests nothing of what it reads, and writing beside
+bench/writing.cpp, which writes the matrix alone; to memory as the call does. The memory of writing is what a run takes that
+writes less what one takes that makes the stack alone, each by GNU time, which is small itself. Of a combination the rest is what
+remains of the whole after reading and recovery: the sum, its solution and the writing. The memory is measured of one run, which may
+end with a refusal. For common values and a datum, runs that end with a refusal after these steps are compared with runs that do
+not have them, beside the recovery of a file.
 """
 
 import os
@@ -146,6 +149,26 @@ def read(program, yardstick, sizes, folder):
             print(f"{rows} rows, {values} a line, {size:.1f} MB: {min(mine):.0f} ms, C++ {min(theirs):.0f} ms, ratio {ratio:.2f}")
 
 
+def peak(command):
+    """The greatest resident set of the command, in bytes."""
+    ended = subprocess.run(["/usr/bin/time", "-f", "%M", *command], stdout=subprocess.DEVNULL, stderr=subprocess.PIPE, check=True)
+    return 1024 * int(ended.stderr.split()[-1])
+
+
+def write(program, yardstick, sizes):
+    for rows in sizes:
+        mine, theirs, size = [], [], 0
+        for _ in range(RUNS):
+            t = numbers(run([program, "write", str(rows)])[0])
+            mine.append(t["micros"] / 1000)
+            size = t["bytes"]
+            theirs.append(1000 * numbers(run([yardstick, str(rows)])[0])["write"])
+        whole, stack = (min(peak([program, what, str(rows)]) for _ in range(RUNS)) for what in ("write", "stack"))
+        rate = size / 1000 / min(mine)
+        print(f"{rows} rows, {size / 1e6:.2f} MB: {min(mine):.1f} ms, {rate:.0f} MB/s; C++ {min(theirs):.1f} ms, ratio {min(mine) / min(theirs):.2f}")
+        print(f"  memory: {whole / 1e6:.1f} MB, of which the stack {stack / 1e6:.1f}; the rest is {(whole - stack) / size:.2f} times the text")
+
+
 def networks(folder, files, rows, shared):
     """The files of a combination, made in the folder."""
     words = [str(folder), str(files), str(rows), str(shared)]
@@ -268,6 +291,8 @@ def main(what, sizes):
             datum(program, built_solver(), 300, folder)
         elif what == "read":
             read(program, compiled(folder, "reading"), sizes or [900], folder)
+        elif what == "write":
+            write(program, compiled(folder, "writing"), sizes or [900])
         elif what == "combine":
             loops, reader = compiled(folder, "kernels"), compiled(folder, "reading")
             combine(program, built_solver(), loops, reader, sizes or [8, 300, 210], folder)

@@ -18,12 +18,15 @@ from dataclasses import dataclass, field
 from fractions import Fraction
 from functools import cached_property
 from pathlib import Path
+from unittest import mock
 
 import combine
 import control_files
 import covariances as made_covariances
 import exact
+import solve
 from document_builders import EXAMPLES, NORMAL, ONE_NAME, bare, block, changed, joined, row, strip, whole
+from made_documents import make_file
 
 WORDS = ["combine", "control", "out", "report"]
 # reports of at most so many lines are compared with the exact solution
@@ -583,6 +586,66 @@ def chance_covariances():
         yield Run(f"covariances made by chance, {number}", {**files, "control": control(*entries, rest=rest)})
 
 
+# ---- loose networks: the pilot is refused, and its transpose encloses or is refused too
+
+
+@dataclass
+class SecondTry(Run):
+    # the refusal of the pilot by itself, after 'snxcomb: '
+    first: str = ""
+
+    def is_as_wanted(self):
+        with mock.patch.object(solve, "by_either", lambda r, make: (r, make(r))):
+            alone = combine.verdict(self.words, self.files)[1]
+        return alone == f"snxcomb: {self.first}\n" and super().is_as_wanted()
+
+
+def of_station(kind, code):
+    return f"{kind}/{code}/A/1/24:001:00000"
+
+
+def loose_normal(what, first, rows, sigma, held, vector=1, wants=None):
+    """A network of bench/make_file.py, with a multiple of its right side."""
+    parameters, matrix, right = make_file.loose_network(rows, sigma, held)
+    text = make_file.exact_text(parameters, matrix, [vector * number for number in right]).encode()
+    return SecondTry(what, {"in": text}, wants, ["solve", "in", "report"], first=first)
+
+
+def loose_covariances(variance):
+    """Four stations that move together with this variance in each axis, and by themselves with standard deviations of 1.4 to 2 mm."""
+    rng = random.Random(20261204)
+    names = [named(axis, f"{letter}BCD") for letter in "ABCD" for axis in AXES]
+    matrix = {}
+    for k, name in enumerate(names):
+        for other in names[: k + 1]:
+            together = variance if dict(name)["kind"] == dict(other)["kind"] else 0
+            own = rng.randint(200, 400) if name == other else rng.randint(-15, 15)
+            matrix[name, other] = f"{together * 10**8 + own}E-08"
+    return estimated(dict.fromkeys(names, "1"), dict.fromkeys(names, "1.5"), matrix, contents=COVA)
+
+
+def loose():
+    twice = " ".join([of_station("STAX", "0000")] * 2)
+    yield loose_normal("all of ten stations held to 10 m", f"defect stack {of_station('STAY', '0000')} 32212254720", 30, "10", 10)
+    yield loose_normal("three of ten stations held to 1 m", f"defect stack {of_station('STAZ', '0003')} 1474939616", 30, "1", 3)
+    yield loose_normal("three of ten stations held to 10 m", f"range stack {' '.join([of_station('STAZ', '0005')] * 2)}", 30, "10", 3)
+    yield loose_normal("three of ten stations held to 10 m at their values", f"defect stack {of_station('STAY', '0000')} 32212254720", 30, "10", 3, 0)
+    yield loose_normal("all of ten stations held to 100 m", f"range stack {' '.join([of_station('STAY', '0000')] * 2)}", 30, "100", 10)
+    # the transpose is refused by its defect, by another defect, and by its start vector at another row
+    both = f"range stack {twice}"
+    yield loose_normal("four stations held to 1 km", both, 12, "1000", 4, wants=both)
+    both = f"defect stack {of_station('STAX', '0000')} 12884901888"
+    yield loose_normal("four stations held to 1 km at their values", both, 12, "1000", 4, 0, wants=both)
+    both = f"range stack {twice}"
+    yield loose_normal("four stations held to 100 m and far from their values", both, 12, "100", 4, 10**5, wants=both)
+    first = f"defect file:a {of_station('STAX', 'ABCD')} 12884901888"
+    found, lost = loose_covariances(400), loose_covariances(10**8)
+    yield SecondTry("covariances of stations held to 20 m", {"a": found, "control": control(entry("a"))}, first=first)
+    rest = datum("ABCD BBCD CBCD", translation="0.001")
+    yield SecondTry("covariances of stations held to 20 m with a datum", {"a": found, "control": control(entry("a"), rest=rest)}, first=first)
+    yield SecondTry("covariances of stations held to 10 km", {"a": lost, "control": control(entry("a"))}, first, first=first)
+
+
 # ---- solutions made by chance: with constraints of both kinds, beside normal equations
 
 
@@ -674,6 +737,8 @@ def examples():
     covariances = {path.name: path.read_bytes() for path in sorted((EXAMPLES / "covariances").iterdir())}
     yield Run("the example of covariances", covariances, words=["combine", "control.toml", "combined.snx", "report.txt"])
     yield Run("one of its solutions", covariances, words=["solve", "west.snx", "report.txt"])
+    centres = {path.name: path.read_bytes() for path in sorted((EXAMPLES / "two-centres").iterdir())}
+    yield Run("the example of two centres", centres, words=["combine", "control.toml", "combined.snx", "report.txt"])
     yield Run("the example of a free network", free, words=["combine", "control.toml", "combined.snx", "report.txt"])
     yield Run("the example of a free network without a datum", free, "pivot stack STAY/ZIMM/A/1/24:003:43200", words=["combine", "no-datum.toml", "combined.snx", "report.txt"])
 
@@ -904,7 +969,7 @@ def matrix_files():
 
 def example_files():
     """Each example's files, and its combined file combined again."""
-    for folder in ("combination", "covariances", "free-network", "solutions"):
+    for folder in ("combination", "covariances", "free-network", "solutions", "two-centres"):
         files = {path.name: path.read_bytes() for path in sorted((EXAMPLES / folder).iterdir())}
         run = Run(f"the combined file of the example {folder}", files, words=["combine", "control.toml", "out", "report"])
         yield run
@@ -936,6 +1001,7 @@ GROUPS = {
     "covariances and correlations": covariances,
     "one solution in four forms": alike,
     "covariances made by chance": chance_covariances,
+    "loose networks": loose,
     "solutions made by chance": chance_solutions,
     "many names": sizes,
     "combinations made by chance": chances,

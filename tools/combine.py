@@ -183,8 +183,8 @@ def solution_of(stack):
         raise Refusal(6, " ".join([cause, "stack", *texts])) from None
 
 
-def combined(found, files):
-    """The report of the files of a control, and their combined file where the control has a header for it."""
+def stack_of(found, files):
+    """The inputs of a control, the table of their stack before the rows of the datum, and their stack."""
     inputs = read_inputs(files, found.files)
     values = common_values(inputs, found.reference)
     parts = [(plan, shift(plan, recover(plan, document, found.scales), values)) for plan, document in inputs]
@@ -192,6 +192,12 @@ def combined(found, files):
     free = [list(row) for row in stack.table]
     if found.datum:
         add_datum(stack, found.datum)
+    return inputs, free, stack
+
+
+def combined(found, files):
+    """The report of the files of a control, and their combined file where the control has a header for it."""
+    inputs, free, stack = stack_of(found, files)
     solution = solution_of(stack)
     return solve.report(stack, solution), found.output and combined_file.text_of(found, inputs, free, stack, solution)
 

@@ -88,13 +88,15 @@ def columns_of(a, g, r, v):
     """The start vector and the radii of each column, which are refused one after another."""
     n = len(a)
     parts = solve.defects(a, g, r)
+    columns = []
     for c in range(n):
         d = [(10**v, 10**v) if i == c else (0, 0) for i in range(n)]
         try:
             y = solve.start_vector(a, d, g, r)
         except solve.Refused as refusal:
             raise solve.Refused("range", refusal.args[1], c) from None
-        yield y, solve.certificate(a, d, g, r, y, parts)[2]
+        columns.append((y, solve.certificate(a, d, g, r, y, parts)[2]))
+    return columns
 
 
 def inverse(table, kappa):
@@ -103,7 +105,7 @@ def inverse(table, kappa):
     e, a, _ = solve.working(table, [(0, 0)] * n)
     g, r = solve.pilot(a)
     v = solve.least(lambda v: 10 ** (v + 1) > 2 ** (63 + g))
-    columns = list(columns_of(a, g, r, v))
+    _, columns = solve.by_either(r, lambda r: columns_of(a, g, r, v))
     words = []
     for i in range(n):
         words.append([])

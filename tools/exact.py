@@ -2,7 +2,7 @@
 
 No interval of tools/combine.py is used. Which value is a name's common one, which blocks of a file count, and the coefficients of
 the datum's rows, it has from tools/apriori.py, tools/recovery.py and tools/datum.py, so a wrong choice of these shows in other rows
-alone.
+alone. How far the deviations may be off it has from the defect that the report tells.
 """
 
 from fractions import Fraction
@@ -14,6 +14,7 @@ import covariances
 import datum
 import recovery
 import sinex
+import solve
 
 
 def summed(files, found):
@@ -98,14 +99,17 @@ def is_file(files, words, made):
         and all(is_near(row.value, value + away, 15, high - low) for row, value, away, (low, high) in zip(rows[0], common, x, bounds))
         and all(is_near(row.value, value, 15, 1000 * wide) for row, value in zip(rows[2], right))
         and all(is_near(given.get((a, b), 0), free[i][j], 14, wide) for i, a in enumerate(names) for j, b in enumerate(names))
-        and is_deviation(rows[0], matrix)
+        and is_deviation(rows[0], matrix, made[words[3]])
     )
 
 
-def is_deviation(rows, matrix):
-    """Whether the deviations are the roots of the inverse's diagonal, where there are few."""
+def is_deviation(rows, matrix, report):
+    """Whether the deviations are the roots of the inverse's diagonal, up to what the defect in the report leaves, where there are few."""
     if len(rows) > 12:
         return True
     places = range(len(rows))
     inverse = covariances.exact_inverse({(i, j): matrix[i][j] for i in places for j in places}, list(places))
-    return all(is_near(row.deviation**2, inverse[i, i], 5) for i, row in enumerate(rows))
+    powers = [solve.exponent(matrix[i][i] * 10**18) for i in places]
+    defect = Fraction(int(report.partition(" B=")[2].split()[0]), 2**30)
+    widths = [defect * max(abs(inverse[k, i]) * Fraction(10) ** (powers[k] - powers[i]) for k in places) for i in places]
+    return all(is_near(row.deviation**2, inverse[i, i], 5, widths[i]) for i, row in enumerate(rows))

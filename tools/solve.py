@@ -1,7 +1,7 @@
 #!/usr/bin/env python3
 """The rules from a stack to its report, apart from the program: part of tools/combine.py.
 
-    solve.py NAME   writes what pilot, start vector and certificate give for a worked table
+    solve.py NAME   writes what the pilot, or its transpose, start vector and certificate give for a worked table
 
 Everything is exact, in Python's whole numbers and fractions, and written from the rules, not from the program's code. A word
 is a pair (lo, hi) of whole numbers. Sums pass over zeros, so that a sparse matrix of 1,000 rows takes seconds.
@@ -216,6 +216,28 @@ def certificate(a, d, g, r, y, parts=None):
     return b, m, [errors[i] + up(parts[i] * rho, 2**30) for i in range(n)]
 
 
+def transposed(r):
+    return [list(numbers) for numbers in zip(*r)]
+
+
+def by_either(r, make):
+    """The pilot, or the pilot transposed where it is refused, with what is made by it; where both are refused, the pilot's refusal."""
+    try:
+        return r, make(r)
+    except Refused as refusal:
+        exchanged = transposed(r)
+        try:
+            return exchanged, make(exchanged)
+        except Refused:
+            raise refusal from None
+
+
+def enclosure(a, d, g, r):
+    """The start vector, and the certificate at it."""
+    y = start_vector(a, d, g, r)
+    return y, certificate(a, d, g, r, y)
+
+
 # ---- the printed numbers
 
 
@@ -272,14 +294,14 @@ def label(number, name, unit):
 
 
 class Solution:
-    """What the rules make of a stack: the exponents with the scale exponents added, the pilot, the certificate, the printed numbers."""
+    """What the rules make of a stack: the exponents with the scale exponents added, the pilot, it or its transpose as what encloses, the
+    certificate, the printed numbers."""
 
     def __init__(self, stack):
         e, a, d = working(stack.table, stack.right)
         self.powers = [i + t for i, t in zip(e, stack.scales)]
-        self.g, self.inverse = pilot(a)
-        y = start_vector(a, d, self.g, self.inverse)
-        self.b, self.m, w = certificate(a, d, self.g, self.inverse, y)
+        self.g, self.pilot = pilot(a)
+        self.inverse, (y, (self.b, self.m, w)) = by_either(self.pilot, lambda r: enclosure(a, d, self.g, r))
         self.rows, self.estimates = printed(stack.x0, self.powers, a, d, y, w)
 
 
@@ -324,10 +346,18 @@ def diagonal_words(n):
     return table, [(0, 0)] * n
 
 
+def two_rows_at_the_limits():
+    """Two dominant rows, as the test of crates/dominant_laws has them: diagonals of four quarters, one beside them."""
+    quarter = 10**16
+    diagonal, beside, right = (4 * quarter,) * 2, (quarter, quarter + 1), (5 * quarter,) * 2
+    return [[diagonal, beside], [beside, diagonal]], [right, right]
+
+
 TABLES = {
     "two": lambda: of_numbers([[1000000, 999999], [999999, 1000000]], [1999999, 1999999]),
     "stations": three_stations,
     "diagonal": lambda: diagonal_words(3),
+    "limits": two_rows_at_the_limits,
 }
 
 
@@ -335,8 +365,7 @@ def show(name):
     e, a, d = working(*TABLES[name]())
     try:
         g, r = pilot(a)
-        y = start_vector(a, d, g, r)
-        b, m, w = certificate(a, d, g, r, y)
+        r, (y, (b, m, w)) = by_either(r, lambda r: enclosure(a, d, g, r))
     except Refused as refusal:
         print(*refusal.args)
         return

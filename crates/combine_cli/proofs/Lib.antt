@@ -4,6 +4,7 @@ pub mod AlikeLaws
 pub mod CombinedLaws
 pub mod CountedLaws
 pub mod Decisions
+pub mod DominantLaws
 pub mod EachLaws
 pub mod Equal
 pub mod ExactSystems

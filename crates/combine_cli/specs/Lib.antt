@@ -1,6 +1,7 @@
 pub mod Alike
 pub mod Causes
 pub mod Combination
+pub mod Dominance
 pub mod Headline
 pub mod Parts
 pub mod Plan

@@ -20,6 +20,7 @@ ghost use Rattle.refusal_lines.specs.declared.refusal.Scope.TheVariants as place
 ghost use Rattle.refusal_lines.specs.declared.refusal.Refusal.TheVariants as refusals;
 ghost use Rattle.combine_cli.specs.Alike.{AlikeAreAdmitted, AlikeCombine};
 ghost use Rattle.combine_cli.specs.Causes.{refusal_of_recovery};
+ghost use Rattle.combine_cli.specs.Dominance.{DominantStacksAreEnclosed};
 ghost use Rattle.combine_cli.specs.Headline.{IsExactOf};
 ghost use Rattle.combine_cli.specs.Runs.{StoppedAt};
 ghost use Rattle.combine_cli.specs.Verdict.{Outcome, IsVerdict};
@@ -110,4 +111,10 @@ pub fn refusals_are_told()
 pub fn alike_controls()
     ensures admitted { AlikeAreAdmitted }
     ensures texts { AlikeCombine }
+{}
+
+/// A stack whose working table is dominant is refused neither for its pilot nor for its start vector nor for its certificate: where it
+/// is refused, the numbers of a row can't be printed.
+pub fn dominant_stacks_are_enclosed()
+    ensures { DominantStacksAreEnclosed }
 {}

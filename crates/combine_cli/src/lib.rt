@@ -17,8 +17,9 @@ mod top;
 
 pub use combining::{Combined, combine_core};
 pub use laws::{
-    alike_controls, bounds_hold_their_solutions, exact_systems_are_as_written, files_are_added,
-    files_are_moved, refusals_are_told, stopped_outputs_are_fronts,
+    alike_controls, bounds_hold_their_solutions, dominant_stacks_are_enclosed,
+    exact_systems_are_as_written, files_are_added, files_are_moved, refusals_are_told,
+    stopped_outputs_are_fronts,
 };
 pub use refusal_lines::{Name, Refusal, Scope, line, status};
 pub use top::run;

@@ -1,9 +1,17 @@
--- Square tables with equal numbers are equal.
-use Rattle.std.proofs.Common.{◌≡◌, ◌<◌, ◌+◌, ◌*◌, ◌/◌, ◌%◌, ◌∙◌, ℕ, zero, suc, pos, length, arith, sym, ap}
+-- Square tables with equal numbers are equal, and what is said of a table is so of an equal one.
+use Rattle.std.proofs.Common.{◌≡◌, ◌<◌, ◌+◌, ◌*◌, ◌/◌, ◌%◌, ◌∙◌, ℕ, zero, suc, pos, List, length, arith, sym, ap, subst}
 use Rattle.std.proofs.Math.Nat.{div-lt_iff_lt-mul}
+use Rattle.whole_numbers.specs.Intervals.{Interval}
 use Rattle.whole_numbers.specs.Lists.{at}
 use Rattle.whole_numbers.proofs.ListLaws.{equal_lists}
+use Rattle.sym_blocks.specs.Tables.{SymTable}
 use Rattle.enclosures.specs.Pilots.{PilotTable, pilot_entry}
+
+-- what is said of a table and a right side is so of equal ones
+pub of_equal : (P : SymTable → List Interval → Type 0) (a b : SymTable) (d e : List Interval) → a ≡ b → d ≡ e → P a d → P b e
+of_equal P a b d e same equal h = subst (λ x. P x e) same (subst (P a) equal h)
+
+-- ---- squares
 
 row_of : (n k : ℕ) → k < n * n → k / n < n
 row_of zero k l = absurd (omega arith)

@@ -1,10 +1,14 @@
 pub mod AloneCertificates
+pub mod AloneEnclosures
 pub mod AloneSteps
 pub mod AloneVectors
 pub mod CertificateLaws
 pub mod DefectLaws
+pub mod EnclosureLaws
 pub mod EqualTables
 pub mod ErrorLaws
+pub mod FactorLaws
 pub mod StepCalls
+pub mod StepRefusals
 pub mod VectorLaws
 pub mod WorkedTables

@@ -1,4 +1,4 @@
--- For private functions alone: how the refusals of the pilot, the start vector and the certificate go over into those of an enclosure.
+-- How the refusals of the pilot, the start vector and the certificate go over into those of an enclosure.
 use Rattle.chol_guess.specs.declared.PilotError.{PilotError}
 use Rattle.chol_guess.specs.declared.PilotError.TheVariants as pilot
 use Rattle.enclosure_check.specs.declared.VectorError.{VectorError}

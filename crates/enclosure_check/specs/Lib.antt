@@ -1,5 +1,5 @@
--- A stranger reads Certificates, Vectors, Answers, Inputs and Steps, and CertificateLists for the calls in parts. Rows, Defects,
--- ErrorParts, VectorParts and EnclosureErrors serve private functions alone.
+-- A stranger reads Certificates, Vectors, Answers, Inputs, Steps, EnclosureErrors and Enclosures, and CertificateLists for the calls in
+-- parts. Rows, Defects, ErrorParts and VectorParts serve private functions alone.
 pub mod Certificates
 pub mod Answers
 pub mod Vectors
@@ -10,4 +10,5 @@ pub mod Inputs
 pub mod CertificateLists
 pub mod EnclosureErrors
 pub mod Rows
+pub mod Enclosures
 pub mod Steps

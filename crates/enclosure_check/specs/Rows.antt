@@ -1,5 +1,6 @@
--- For private functions alone: intervals by the lists of their low and of their high ends, row by row.
-use Rattle.std.specs.Prelude.{◌≡◌, ◌<◌, ◌+◌, ◌*◌, ◌^◌, ℕ, ℤ, List, length}
+-- For private functions alone: intervals by the lists of their low and of their high ends, row by row, and the numbers that rows are multiplied
+-- with.
+use Rattle.std.specs.Prelude.{◌≡◌, ◌≤◌, ◌<◌, ◌+◌, ◌*◌, ◌^◌, ◌⊎◌, ℕ, ℤ, pos, List, length}
 use Rattle.whole_numbers.specs.Intervals.{Interval}
 use Rattle.whole_numbers.specs.Lists.{at, AllAtMost}
 use Rattle.enclosures.specs.Vectors.{IsSmall}
@@ -20,3 +21,11 @@ pub record IsRowByVector (low high y : List ℤ) : Type 0 where
   pub low_ends : AllAtMost (2 ^ 61) low
   pub high_ends : AllAtMost (2 ^ 61) high
   pub small : IsSmall (length y) (at y)
+
+-- the numbers before first are zero, and so are those from end on
+abbrev pub ZeroOutside : List ℤ → ℕ → ℕ → Type 0
+ZeroOutside xs first end = (k : ℕ) → (k < first) ⊎ (end ≤ k) → at xs k ≡ pos 0
+
+-- the numbers of ys are those of xs, up to where ys ends
+abbrev pub BeginsAs : List ℤ → List ℤ → Type 0
+BeginsAs xs ys = (k : ℕ) → k < length ys → at ys k ≡ at xs k

@@ -20,23 +20,41 @@ fn refusal_of(refusal: EquilError) -> EncloseError {
     }
 }
 
-// Two unknowns that can hardly be told apart, each 1.
-fn two_rows<R: Threads + Sync, const N: usize>(
+// Two rows, with the element `beside` off the diagonal.
+fn two_tied<R: Threads + Sync, const N: usize>(
     rt: &R,
     alloc: Global,
+    diagonals: [Iv; 2],
+    beside: Iv,
+    rights: [Iv; 2],
 ) -> Result<Enclosed, EncloseError> {
     let mut table = match SymBlock::<N>::zero(alloc, 2) {
         Ok(zero) => zero,
         Err(_) => return Err(EncloseError::Memory),
     };
-    table.set(0, 0, Iv::point(1_000_000 * ONE));
-    table.set(1, 0, Iv::point(999_999 * ONE));
-    table.set(1, 1, Iv::point(1_000_000 * ONE));
-    let rights = [Iv::point(1_999_999 * ONE), Iv::point(1_999_999 * ONE)];
+    table.set(0, 0, diagonals[0]);
+    table.set(1, 0, beside);
+    table.set(1, 1, diagonals[1]);
     match working(alloc, &table, &rights) {
         Ok(w) => enclose(rt, alloc, &w, 16),
         Err(refusal) => Err(refusal_of(refusal)),
     }
+}
+
+// Two unknowns that can hardly be told apart, each 1.
+fn two_rows<R: Threads + Sync, const N: usize>(
+    rt: &R,
+    alloc: Global,
+) -> Result<Enclosed, EncloseError> {
+    let diagonal = Iv::point(1_000_000 * ONE);
+    let right = Iv::point(1_999_999 * ONE);
+    two_tied::<R, N>(
+        rt,
+        alloc,
+        [diagonal, diagonal],
+        Iv::point(999_999 * ONE),
+        [right, right],
+    )
 }
 
 // Differences between three stations along an axis.
@@ -71,6 +89,45 @@ fn free_network<R: Threads + Sync, const N: usize>(
     }
 }
 
+// Two unknowns that are tied to each other a billion times better than to anything else. The pilot is refused for its defect, and its
+// transpose encloses.
+fn loose_rows<R: Threads + Sync, const N: usize>(
+    rt: &R,
+    alloc: Global,
+) -> Result<Enclosed, EncloseError> {
+    let diagonals = [
+        Iv::point(1_000_000_005 * ONE),
+        Iv::point(1_000_000_001 * ONE),
+    ];
+    let rights = [Iv::point(-4 * ONE), Iv::point(-5 * ONE)];
+    two_tied::<R, N>(
+        rt,
+        alloc,
+        diagonals,
+        Iv::point(-1_000_000_000 * ONE),
+        rights,
+    )
+}
+
+// Two unknowns that both tables refuse.
+fn looser_rows<R: Threads + Sync, const N: usize>(
+    rt: &R,
+    alloc: Global,
+) -> Result<Enclosed, EncloseError> {
+    let diagonals = [
+        Iv::point(640_000_000_001 * ONE),
+        Iv::point(10_000_000_000 * ONE),
+    ];
+    let rights = [Iv::point(6 * ONE), Iv::point(-ONE)];
+    two_tied::<R, N>(
+        rt,
+        alloc,
+        diagonals,
+        Iv::point(-80_000_000_000 * ONE),
+        rights,
+    )
+}
+
 fn each_answer<R: Threads + Sync, const N: usize>(
     rt: &R,
     alloc: Global,
@@ -85,6 +142,24 @@ fn each_answer<R: Threads + Sync, const N: usize>(
     )
 }
 
+fn second_tries<R: Threads + Sync, const N: usize>(
+    rt: &R,
+    alloc: Global,
+) -> Result<bool, EncloseError> {
+    let e = loose_rows::<R, N>(rt, alloc)?;
+    let refused = EncloseError::Defect {
+        row: 0,
+        parts: 1 << 31,
+    };
+    Ok(
+        e.pilot.g() == 10
+            && (e.radius.b, e.radius.m) == (63_178, 1)
+            && e.radius.w.as_slice() == [2, 2].as_slice()
+            && e.y.as_slice() == [-149_999_999_941_666_667, -150_000_000_291_666_667].as_slice()
+            && looser_rows::<R, N>(rt, alloc).err() == Some(refused),
+    )
+}
+
 fn crosses_threads<T: Send + Sync>() {}
 
 #[test]
@@ -92,6 +167,7 @@ fn enclosures_of_each_tile(rt: HostRuntime) -> Result<(), Fail> {
     assert_eq!(rt; each_answer::<HostRuntime, 1>(&rt, rt.alloc()), Ok(true));
     assert_eq!(rt; each_answer::<HostRuntime, 3>(&rt, rt.alloc()), Ok(true));
     assert_eq!(rt; each_answer::<HostRuntime, 16>(&rt, rt.alloc()), Ok(true));
+    assert_eq!(rt; second_tries::<HostRuntime, 3>(&rt, rt.alloc()), Ok(true));
     crosses_threads::<Enclosed>();
     crosses_threads::<Radius>();
     crosses_threads::<VectorError>();

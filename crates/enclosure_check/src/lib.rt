@@ -11,9 +11,11 @@ mod enclosure;
 #[cfg(test)]
 mod enclosure_tests;
 mod ends;
+mod factors;
 mod products;
 mod row_defects;
 mod row_errors;
+mod transposes;
 mod vector;
 #[cfg(test)]
 mod vector_tests;
@@ -24,6 +26,7 @@ pub use enclosure::enclose;
 pub use enclosures::{Enclosed, Pilot, Radius};
 pub use row_defects::{defects, row_defect};
 pub use row_errors::errors;
+pub use transposes::transposed;
 pub use vector::start_vector;
 pub use working_rows::WorkingRows;
 

@@ -15,3 +15,10 @@ pub fn short_product(x: i128, y: i128) -> i128
         _ => product(x, y),
     }
 }
+
+/// The product of two numbers of 64 bits.
+pub fn long_product(a: i64, b: i64) -> i128
+    ensures { result ≡ a *ℤ b }
+{
+    i128::from(a) * i128::from(b)
+}

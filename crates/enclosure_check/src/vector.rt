@@ -17,7 +17,8 @@ ghost use Rattle.enclosure_check.specs.declared.VectorError.TheVariants.{Memory}
 ghost use Rattle.stated_order.specs.First.{IsLeast};
 
 use crate::VectorError;
-use crate::products::short_product;
+use crate::factors::Factors;
+use crate::products::{long_product, short_product};
 use crate::row_errors::{MOST_SHIFT, nth_entry};
 use crate::working_rows::WorkingRows;
 use enclosures::Pilot;
@@ -68,30 +69,56 @@ fn taken_midpoint(low: &[i64], high: &[i64], y: &[i128], j: usize) -> i128
     short_product(i128::from(middle(low[j], high[j])), y[j])
 }
 
-/// What the vector takes of a row, by the midpoints of its intervals.
-fn taken(low: &[i64], high: &[i64], y: &[i128]) -> i128
-    requires { IsRowByVector low.now high.now y.now }
-    ensures value { result ≡ sum_to (length y.now) (taken_midpoint low.now high.now y.now) }
-    ensures bound { unsigned_abs result ≤ 2 ^ 125 }
+/// What a vector takes of a row, by the midpoints of its intervals.
+fn wide_taken(low: &[i64], high: &[i64], y: &Factors) -> i128
+    requires { IsRowByVector low.now high.now y.now.numbers.now }
+    ensures { result ≡ sum_to (length y.now.numbers.now) (taken_midpoint low.now high.now y.now.numbers.now) }
 {
     let mut sum: i128 = 0;
-    for j in 0..y.len() {
-        sum += taken_midpoint(low, high, y, j);
+    for j in y.first..y.end {
+        sum += taken_midpoint(low, high, y.numbers, j);
     }
     sum
+}
+
+/// The same of a vector whose numbers fit 64 bits.
+fn short_taken(low: &[i64], high: &[i64], y: &Factors) -> i128
+    requires row { IsRowByVector low.now high.now y.now.numbers.now }
+    requires short { y.now.end ≤ length y.now.short.items }
+    ensures { result ≡ sum_to (length y.now.numbers.now) (taken_midpoint low.now high.now y.now.numbers.now) }
+{
+    let short = y.short.as_slice();
+    let mut sum: i128 = 0;
+    for j in y.first..y.end {
+        sum += long_product(middle(low[j], high[j]), short[j]);
+    }
+    sum
+}
+
+/// What the vector takes of a row, by the midpoints of its intervals.
+fn taken(low: &[i64], high: &[i64], y: &Factors) -> i128
+    requires { IsRowByVector low.now high.now y.now.numbers.now }
+    ensures value { result ≡ sum_to (length y.now.numbers.now) (taken_midpoint low.now high.now y.now.numbers.now) }
+    ensures bound { unsigned_abs result ≤ 2 ^ 125 }
+{
+    if y.is_short() {
+        short_taken(low, high, y)
+    } else {
+        wide_taken(low, high, y)
+    }
 }
 
 /// The residual of the vector in row `i`, by the midpoints of the intervals.
 fn midpoint_residual<const N: usize>(
     rows: &WorkingRows<'_, N>,
     d: &[Iv],
-    y: &[i128],
+    y: &Factors,
     i: usize,
 ) -> i128
     requires rights { IsRightSide rows.now.table.now.size d.now }
-    requires vector { IsVector rows.now.table.now.size y.now }
+    requires vector { IsVector rows.now.table.now.size y.now.numbers.now }
     requires row { i < rows.now.table.now.size }
-    ensures value { result ≡ midpoint_residual rows.now.table.now.size (table_of rows.now.table.now d.now) (at y.now) i }
+    ensures value { result ≡ midpoint_residual rows.now.table.now.size (table_of rows.now.table.now d.now) (at y.now.numbers.now) i }
     ensures bound { unsigned_abs result ≤ 2 ^ 126 }
 {
     nth_entry(d, i).mid() - taken(rows.lows(i), rows.highs(i), y)
@@ -108,9 +135,10 @@ fn midpoint_residuals<const N: usize>(
     requires vector { IsVector rows.now.table.now.size y.now }
     ensures { IfOk result (λ v. AreMidpointResiduals rows.now.table.now.size (table_of rows.now.table.now d.now) (at y.now) v.items) }
 {
+    let factors = Factors::of(alloc, y)?;
     let mut numbers = Vec::new(alloc);
     for i in 0..rows.table.size() {
-        numbers.push(midpoint_residual(rows, d, y, i))?;
+        numbers.push(midpoint_residual(rows, d, &factors, i))?;
     }
     Ok(numbers)
 }
@@ -158,37 +186,63 @@ fn part_number(row: &[i64], numbers: &[i128], k: usize) -> i128
     short_product(i128::from(row[k]), numbers[k])
 }
 
-/// What a row of the pilot makes of the numbers.
-fn row_by_numbers(row: &[i64], numbers: &[i128]) -> i128
-    requires { IsRowByNumbers row.now numbers.now }
-    ensures value { result ≡ sum_to (length numbers.now) (part_number row.now numbers.now) }
-    ensures bound { unsigned_abs result ≤ 2 ^ 126 }
+/// What a row of the pilot makes of numbers.
+fn row_by_wide(row: &[i64], numbers: &Factors) -> i128
+    requires { IsRowByNumbers row.now numbers.now.numbers.now }
+    ensures { result ≡ sum_to (length numbers.now.numbers.now) (part_number row.now numbers.now.numbers.now) }
 {
     let mut sum: i128 = 0;
-    for k in 0..numbers.len() {
-        sum += part_number(row, numbers, k);
+    for k in numbers.first..numbers.end {
+        sum += part_number(row, numbers.numbers, k);
     }
     sum
 }
 
+/// The same of numbers that fit 64 bits.
+fn row_by_short(row: &[i64], numbers: &Factors) -> i128
+    requires sizes { IsRowByNumbers row.now numbers.now.numbers.now }
+    requires short { numbers.now.end ≤ length numbers.now.short.items }
+    ensures { result ≡ sum_to (length numbers.now.numbers.now) (part_number row.now numbers.now.numbers.now) }
+{
+    let short = numbers.short.as_slice();
+    let mut sum: i128 = 0;
+    for k in numbers.first..numbers.end {
+        sum += long_product(row[k], short[k]);
+    }
+    sum
+}
+
+/// What a row of the pilot makes of the numbers.
+fn row_by_numbers(row: &[i64], numbers: &Factors) -> i128
+    requires { IsRowByNumbers row.now numbers.now.numbers.now }
+    ensures value { result ≡ sum_to (length numbers.now.numbers.now) (part_number row.now numbers.now.numbers.now) }
+    ensures bound { unsigned_abs result ≤ 2 ^ 126 }
+{
+    if numbers.is_short() {
+        row_by_short(row, numbers)
+    } else {
+        row_by_wide(row, numbers)
+    }
+}
+
 /// The correction of row `i`: what the pilot makes of the numbers, which were shifted by `h`.
-fn correction_at(p: &Pilot, numbers: &[i128], h: u32, i: usize) -> i128
-    requires numbers { AreShiftedNumbers p.now.size numbers.now }
+fn correction_at(p: &Pilot, numbers: &Factors, h: u32, i: usize) -> i128
+    requires numbers { AreShiftedNumbers p.now.size numbers.now.numbers.now }
     requires few { h ≤ 60 }
     requires row { i < p.now.size }
-    ensures value { result ≡ correction_at p.now numbers.now h i }
+    ensures value { result ≡ correction_at p.now numbers.now.numbers.now h i }
     ensures bound { unsigned_abs result ≤ 2 ^ 126 }
 {
     shift_floor(row_by_numbers(p.row(i), numbers), p.g() + 60 - h)
 }
 
 /// Number `i` of the vector and its correction.
-fn corrected_at(p: &Pilot, y: &[i128], numbers: &[i128], h: u32, i: usize) -> i128
+fn corrected_at(p: &Pilot, y: &[i128], numbers: &Factors, h: u32, i: usize) -> i128
     requires vector { IsVector p.now.size y.now }
-    requires numbers { AreShiftedNumbers p.now.size numbers.now }
+    requires numbers { AreShiftedNumbers p.now.size numbers.now.numbers.now }
     requires few { h ≤ 60 }
     requires row { i < p.now.size }
-    ensures value { result ≡ corrected_at p.now y.now numbers.now h i }
+    ensures value { result ≡ corrected_at p.now y.now numbers.now.numbers.now h i }
     ensures bound { unsigned_abs result ≤ 2 ^ 64 + 2 ^ 126 }
 {
     y[i] + correction_at(p, numbers, h, i)
@@ -207,10 +261,11 @@ fn corrected(
     requires few { h ≤ 60 }
     ensures { MatchResult result (λ z. AreSmallNumbers p.now.size (corrected_at p.now y.now numbers.now h) z.items) (IsPassed p.now.size (corrected_at p.now y.now numbers.now h)) }
 {
+    let factors = Factors::of(alloc, numbers)?;
     let mut z = Vec::new(alloc);
     let mut total: u128 = 0;
     for row in 0..p.size() {
-        let number = corrected_at(p, y, numbers, h, row);
+        let number = corrected_at(p, y, &factors, h, row);
         total += number.unsigned_abs();
         if total > TOTAL_LIMIT {
             return Err(VectorError::Range { row });

@@ -14,9 +14,10 @@ use Rattle.sym_blocks.proofs.Rows.{entry_sym}
 use Rattle.equil.specs.Tables.{table_of, exponent_of}
 use Rattle.enclosures.specs.Pilots.{PilotTable}
 use Rattle.enclosure_check.specs.Steps.{Worked, midpoints_of, IsWorkingStep, IsPilotStep, IsVectorStep, IsCertificateStep}
+use Rattle.enclosure_check.proofs.AloneEnclosures.{first_given_is_one, transposed_is_one}
 use Rattle.enclosure_check.proofs.AloneSteps.{working_is_one, pilot_is_one, vector_is_one, certificate_is_one}
 use Rattle.inv_enclose.specs.Refusals.{of_working, of_pilot, of_vector, of_check}
-use Rattle.inv_enclose.specs.Columns.{IsUnitPower, IsUnitSide, Column, IsColumnOf, IsColumn, AtEach, column_at, IntervalFits, IsTableOfColumns, AreJoined, IsInverseBy, OneInverse}
+use Rattle.inv_enclose.specs.Columns.{IsUnitPower, IsUnitSide, Column, IsColumnOf, IsColumn, AtEach, AreColumns, AreColumnsByTransposed, AreColumnsByEither, column_at, IntervalFits, IsTableOfColumns, AreJoined, IsInverseBy, OneInverse}
 use Rattle.inv_enclose.specs.declared.InvError.TheVariants.{Range}
 
 -- ---- right sides
@@ -70,6 +71,17 @@ module _ {B C : Type 0} (none : B) (step : ℕ → Result B C → Type 0) (one :
       let f : l ≡ m = cc in
       f
 
+-- all columns, by p or by p transposed
+module _ (n : ℕ) (a : SymTable) (p : PilotTable) (v : ℕ) where
+  columns_are_one : (q : PilotTable) → IsOne (AreColumns n a q v)
+  columns_are_one q = at_each_is_one (column_at [] 0) (IsColumn n a q v) (λ c. column_is_one n a q v c) n
+
+  by_transposed_is_one : IsOne (AreColumnsByTransposed n a p v)
+  by_transposed_is_one r s one other = columns_are_one other.0 r s (subst (λ q. AreColumns n a q v r) (transposed_is_one p one.0 other.0 one.1 other.1) one.2) other.2
+
+  by_either_is_one : IsOne (AreColumnsByEither n a p v)
+  by_either_is_one = first_given_is_one (AreColumns n a p v) (AreColumnsByTransposed n a p v) (columns_are_one p) by_transposed_is_one
+
 -- ---- the table of their intervals
 module _ (n : ℕ) (kappa : ℤ) (v : ℕ) (e : ℕ → ℤ) (columns : List Column) where
   entry_is : (t u : SymTable) → IsTableOfColumns n kappa v e columns t → IsTableOfColumns n kappa v e columns u → (i j : ℕ) → i < n → j < n → entry_at t i j ≡ entry_at u i j
@@ -96,10 +108,10 @@ module _ (n : ℕ) (kappa : ℤ) (v : ℕ) (e : ℕ → ℤ) (columns : List Col
 inverse_by_is_one : (n : ℕ) (kappa : ℤ) (w : Worked) (p : PilotTable) → IsOne (IsInverseBy n kappa w p)
 inverse_by_is_one n kappa w p r s a b =
     let same = power_is_one p.g a.0 b.0 a.1 b.1 in
-    chain b.0 r s (subst (λ v. Then (AtEach (IsColumn n w.table p v) n) (AreJoined n kappa v (exponent_of w.exponents)) r) same a.2) b.2
+    chain b.0 r s (subst (λ v. Then (AreColumnsByEither n w.table p v) (AreJoined n kappa v (exponent_of w.exponents)) r) same a.2) b.2
   where
-    chain : (v : ℕ) → IsOne (Then (AtEach (IsColumn n w.table p v) n) (AreJoined n kappa v (exponent_of w.exponents)))
-    chain v = then_is_one _ _ (at_each_is_one (column_at [] 0) (IsColumn n w.table p v) (λ c. column_is_one n w.table p v c) n) (λ columns of_columns. joined_is_one n kappa v (exponent_of w.exponents) columns)
+    chain : (v : ℕ) → IsOne (Then (AreColumnsByEither n w.table p v) (AreJoined n kappa v (exponent_of w.exponents)))
+    chain v = then_is_one _ _ (by_either_is_one n w.table p v) (λ columns of_columns. joined_is_one n kappa v (exponent_of w.exponents) columns)
 
 pub inverse_is_one : OneInverse
 inverse_is_one table kappa =

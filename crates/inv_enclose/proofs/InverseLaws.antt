@@ -25,7 +25,7 @@ use Rattle.inv_enclose.specs.declared.InvError.{InvError}
 use Rattle.inv_enclose.specs.declared.InvError.TheVariants.{Range, Memory}
 use Rattle.inv_enclose.proofs.HoldLaws.{holds_inverses, have_inverses}
 use Rattle.inv_enclose.proofs.StepLaws.{MemoryOr, renamed_or, stops_or, goes_or}
-use Rattle.inv_enclose.proofs.TableLaws.{all_columns, joined, not_joined}
+use Rattle.inv_enclose.proofs.TableLaws.{either_columns, joined, not_joined}
 
 -- the table where it is modest row by row up to the diagonal, in each place
 pub each_modest : (out : SymTable) → HoldsLower out.size (λ i j. IsModest (entry_at out i j)) → (i j : ℕ) → i < out.size → j < out.size → size (entry_at out i j) ≤ 10 ^ 34
@@ -61,7 +61,7 @@ module _ (table : SymTable) (kappa : ℤ) where
       column_refuses x refused =
           elim refused [
             | inl e ↦ inl e
-            | inr h ↦ let r = subst (λ n. IsColumnRefused n w.table p x) is.size h in inr (then_gives _ _ w _ is (then_gives _ _ p _ of_p (r.v, r.power, then_stops _ _ x r.first)))
+            | inr h ↦ let r = subst (λ n. IsColumnRefused n w.table p x) is.size h in inr (then_gives _ _ w _ is (then_gives _ _ p _ of_p (r.v, r.power, then_stops _ _ x r.both)))
           ]
 
       module _ (out : SymTable) (shown : IsShownInverse w.table.size kappa w.table (exponent_of w.exponents) p out) where
@@ -76,8 +76,8 @@ module _ (table : SymTable) (kappa : ℤ) where
             after_columns _ (
               of_out.v,
               of_out.power,
-              then_gives _ _ of_out.are.columns _ (all_columns table.size w.table p of_out.v _ _ out of_out.are)
-                  (not_joined table.size kappa of_out.v w.table (exponent_of w.exponents) p out of_out.are row col (subst (λ n. IsFirstLowerFailure n (λ i j. IsModest (entry_at out i j)) row col) (rows ∙ is.size) first)),
+              then_gives _ _ of_out.are.shown.columns _ (either_columns table.size w.table p of_out.v _ _ out of_out.are)
+                  (not_joined table.size kappa of_out.v w.table (exponent_of w.exponents) of_out.are.taken out of_out.are.shown row col (subst (λ n. IsFirstLowerFailure n (λ i j. IsModest (entry_at out i j)) row col) (rows ∙ is.size) first)),
             )
 
         module _ (rows : out.size ≡ w.table.size) (whole : length out.entries ≡ before out.size) (modest : HoldsLower out.size (λ i j. IsModest (entry_at out i j))) where
@@ -89,12 +89,12 @@ module _ (table : SymTable) (kappa : ℤ) where
               after_columns _ (
                 of_out.v,
                 of_out.power,
-                then_gives _ _ of_out.are.columns _ (all_columns table.size w.table p of_out.v _ _ out of_out.are)
-                    (joined table.size kappa of_out.v w.table (exponent_of w.exponents) p out of_out.are (rows ∙ is.size) (whole ∙ subst (λ n. before out.size ≡ before n) (rows ∙ is.size) refl) modest_here),
+                then_gives _ _ of_out.are.shown.columns _ (either_columns table.size w.table p of_out.v _ _ out of_out.are)
+                    (joined table.size kappa of_out.v w.table (exponent_of w.exponents) of_out.are.taken out of_out.are.shown (rows ∙ is.size) (whole ∙ subst (λ n. before out.size ≡ before n) (rows ∙ is.size) refl) modest_here),
               )
 
           pub holds : HoldsInverses table kappa out
-          holds = holds_inverses table w.table (replicate table.size zero_interval) w.right (exponent_of w.exponents) is.working p of_out.v kappa out of_out.are modest_here
+          holds = holds_inverses table w.table (replicate table.size zero_interval) w.right (exponent_of w.exponents) is.working of_out.are.taken of_out.v kappa out of_out.are.shown modest_here
 
           pub have : HaveInverses table
-          have = have_inverses table w.table (replicate table.size zero_interval) w.right (exponent_of w.exponents) is.working p of_out.v kappa out of_out.are
+          have = have_inverses table w.table (replicate table.size zero_interval) w.right (exponent_of w.exponents) is.working of_out.are.taken of_out.v kappa out of_out.are.shown

@@ -7,9 +7,10 @@ use Rattle.stated_order.specs.First.{HoldsLower, IsFirstLowerFailure}
 use Rattle.stated_order.proofs.FirstLaws.{first_lower_failure_moves}
 use Rattle.whole_numbers.proofs.Cases.{last_or_before}
 use Rattle.sym_blocks.specs.Tables.{SymTable, entry_at, before}
+use Rattle.equil.specs.Tables.{exponent_of}
 use Rattle.enclosures.specs.Pilots.{PilotTable}
-use Rattle.inv_enclose.specs.Columns.{IsUnitPower, Column, IsColumn, AtEach, column_at, IntervalFits, AreJoined}
-use Rattle.inv_enclose.specs.Parts.{IsModest, IsKept, IsEnclosedColumn, scaled_interval, AreShown, IsColumnRefused}
+use Rattle.inv_enclose.specs.Columns.{IsUnitPower, Column, IsColumn, AreColumns, AreColumnsByEither, column_at, IntervalFits, AreJoined}
+use Rattle.inv_enclose.specs.Parts.{IsModest, IsKept, IsEnclosedColumn, scaled_interval, AreShown, AreShownByEither, IsShownInverse, IsColumnRefused}
 use Rattle.inv_enclose.specs.declared.InvError.{InvError}
 use Rattle.inv_enclose.specs.declared.InvError.TheVariants.{Range, Memory}
 
@@ -57,14 +58,14 @@ module _ (n : ℕ) (a : SymTable) (p : PilotTable) (v : ℕ) (shift : ℤ) (e : 
   }
 
 -- the columns before the one that is refused
-column_refused : (n : ℕ) (a : SymTable) (p : PilotTable) (v : ℕ) (shift : ℤ) (e : ℕ → ℤ) (m : ℕ) (out : SymTable) (cause : InvError) → m < n → AreShown n a p v shift e m out → IsColumn n a p v m (Err cause) → AtEach (IsColumn n a p v) n (Err cause)
+column_refused : (n : ℕ) (a : SymTable) (p : PilotTable) (v : ℕ) (shift : ℤ) (e : ℕ → ℤ) (m : ℕ) (out : SymTable) (cause : InvError) → m < n → AreShown n a p v shift e m out → IsColumn n a p v m (Err cause) → AreColumns n a p v (Err cause)
 column_refused n a p v shift e m out cause within are refused = (m, within, λ j l. (column_at are.columns j, enclosed_column n a p v j (column_at are.columns j) (are.each j l)), refused)
 
-pub refused_column : (n : ℕ) (a : SymTable) (p : PilotTable) (v : ℕ) (shift : ℤ) (e : ℕ → ℤ) (m : ℕ) (out : SymTable) (cause : InvError) → m < n → IsUnitPower p.g v → AreShown n a p v shift e m out → (cause ≡ Memory) ⊎ IsColumn n a p v m (Err cause) → (cause ≡ Memory) ⊎ IsColumnRefused n a p cause
-refused_column n a p v shift e m out cause within power are h = elim h [ inl is ↦ inl is | inr r ↦ inr (record { v = v; power = power; first = column_refused n a p v shift e m out cause within are r }) ]
+pub refused_column : (n : ℕ) (a : SymTable) (p : PilotTable) (v : ℕ) (shift : ℤ) (e : ℕ → ℤ) (m : ℕ) (out : SymTable) (cause : InvError) → m < n → AreShown n a p v shift e m out → (cause ≡ Memory) ⊎ IsColumn n a p v m (Err cause) → (cause ≡ Memory) ⊎ AreColumns n a p v (Err cause)
+refused_column n a p v shift e m out cause within are h = elim h [ inl is ↦ inl is | inr r ↦ inr (column_refused n a p v shift e m out cause within are r) ]
 
 -- all columns
-pub all_columns : (n : ℕ) (a : SymTable) (p : PilotTable) (v : ℕ) (shift : ℤ) (e : ℕ → ℤ) (out : SymTable) → (are : AreShown n a p v shift e n out) → AtEach (IsColumn n a p v) n (Ok are.columns)
+pub all_columns : (n : ℕ) (a : SymTable) (p : PilotTable) (v : ℕ) (shift : ℤ) (e : ℕ → ℤ) (out : SymTable) → (are : AreShown n a p v shift e n out) → AreColumns n a p v (Ok are.columns)
 all_columns n a p v shift e out are = (
   are.count,
   λ k c at_k.
@@ -73,6 +74,31 @@ all_columns n a p v shift e out are = (
       let is : column_at are.columns k ≡ c = get_or_from_slice_get are.columns k c (column_at [] 0) at_k in
       subst (λ x. IsColumn n a p v k (Ok x)) is (enclosed_column n a p v k (column_at are.columns k) (are.each k (omega arith))),
 )
+
+-- by p or by p transposed
+pub either_columns : (n : ℕ) (a : SymTable) (p : PilotTable) (v : ℕ) (shift : ℤ) (e : ℕ → ℤ) (out : SymTable) → (are : AreShownByEither n a p v shift e out) → AreColumnsByEither n a p v (Ok are.shown.columns)
+either_columns n a p v shift e out are =
+    let by = all_columns n a are.taken v shift e out are.shown in
+    elim are.is_taken [
+      | inl same ↦ inl (subst (λ q. AreColumns n a q v (Ok are.shown.columns)) same by)
+      | inr late ↦ inr (late.0, late.1, (are.taken, late.2, by))
+    ]
+
+-- a refusal of both, of a table as it was passed
+pub either_refused : (a b : SymTable) (p : PilotTable) (v : ℕ) (cause : InvError) → a ≡ b → IsUnitPower p.g v → (cause ≡ Memory) ⊎ AreColumnsByEither a.size a p v (Err cause) → (cause ≡ Memory) ⊎ IsColumnRefused b.size b p cause
+either_refused a b p v cause same power h =
+    elim h [
+      | inl is ↦ inl is
+      | inr both ↦ inr (record { v = v; power = power; both = subst (λ t. AreColumnsByEither t.size t p v (Err cause)) same both })
+    ]
+
+-- in units of 10^-(18 + kappa), of a table and exponents as they were passed
+pub shown_in_units : (a b : SymTable) (es fs : List ℤ) (p : PilotTable) (v : ℕ) (shift kappa : ℤ) (out : SymTable) → a ≡ b → es ≡ fs → shift ≡ kappa +ℤ pos 18 -ℤ pos v
+    → IsUnitPower p.g v → AreShownByEither a.size a p v shift (exponent_of es) out → IsShownInverse b.size kappa b (exponent_of fs) p out
+shown_in_units a b es fs p v shift kappa out same exponents value power are =
+    let of_b = subst (λ t. AreShownByEither t.size t p v shift (exponent_of es) out) same are in
+    let of_fs = subst (λ gs. AreShownByEither b.size b p v shift (exponent_of gs) out) exponents of_b in
+    record { v = v; power = power; are = subst (λ s. AreShownByEither b.size b p v s (exponent_of fs) out) value of_fs }
 
 -- ---- the table of their intervals
 module _ (n : ℕ) (kappa : ℤ) (v : ℕ) (a : SymTable) (e : ℕ → ℤ) (p : PilotTable) (out : SymTable) (are : AreShown n a p v (kappa +ℤ pos 18 -ℤ pos v) e n out) where

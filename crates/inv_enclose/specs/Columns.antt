@@ -1,5 +1,6 @@
 -- The inverse of a table of intervals, column by column. Each column solves the system whose right side has one number, and is enclosed
--- by the residual test, with one pilot for all columns. (Rump, Verification methods, 2010.) The scales and bounds are this program's own.
+-- by the residual test, with one table for all columns: the pilot or, where a column of the pilot is refused, the pilot transposed.
+-- (Rump, Verification methods, 2010.) The scales, the bounds and the second try are this program's own.
 use Rattle.std.specs.Prelude.{◌≡◌, ◌≤◌, ◌<◌, ◌+◌, ◌^◌, ℕ, suc, ℤ, pos, ◌+ℤ◌, ◌-ℤ◌, List, [], length, replicate, Some, slice_get, slice_index_or, Result, Ok, Err}
 use Rattle.stated_order.specs.First.{HoldsLower, IsFirstLowerFailure}
 use Rattle.stated_order.specs.Steps.{IsOne, Then, Renamed}
@@ -11,6 +12,7 @@ use Rattle.sym_blocks.specs.Tables.{SymTable, entry_at, before, zero_interval}
 use Rattle.sys_model.specs.Systems.{around}
 use Rattle.equil.specs.Tables.{table_of, exponent_of}
 use Rattle.enclosures.specs.Pilots.{PilotTable}
+use Rattle.enclosure_check.specs.Enclosures.{FirstGiven, IsTransposed}
 use Rattle.enclosure_check.specs.Steps.{Worked, midpoints_of, IsWorkingStep, IsPilotStep, IsVectorStep, Certificate, radius_in, IsCertificateStep}
 use Rattle.inv_enclose.specs.Refusals.{of_working, of_pilot, of_vector, of_check}
 use Rattle.inv_enclose.specs.declared.InvError.{InvError}
@@ -48,6 +50,18 @@ abbrev pub AtEach : {B C : Type 0} → (ℕ → Result B C → Type 0) → ℕ �
 AtEach {B = B} step n (Ok given) = (length given ≡ n) × ((k : ℕ) (b : B) → slice_get given k ≡ Some b → step k (Ok b))
 AtEach {B = B} step n (Err cause) = (k : ℕ) × (k < n) × ((j : ℕ) → j < k → (b : B) × step j (Ok b)) × step k (Err cause)
 
+-- all columns of the inverse of a working table by p in turn, or the refusal of the first that is refused
+abbrev pub AreColumns : ℕ → SymTable → PilotTable → ℕ → Result (List Column) InvError → Type 0
+AreColumns n a p v = AtEach (IsColumn n a p v) n
+
+-- all columns by p transposed
+abbrev pub AreColumnsByTransposed : ℕ → SymTable → PilotTable → ℕ → Result (List Column) InvError → Type 0
+AreColumnsByTransposed n a p v result = (q : PilotTable) × IsTransposed p q × AreColumns n a q v result
+
+-- all columns by p, or p is refused and all are by p transposed; where both are refused, the refusal is that of p
+abbrev pub AreColumnsByEither : ℕ → SymTable → PilotTable → ℕ → Result (List Column) InvError → Type 0
+AreColumnsByEither n a p v = FirstGiven (AreColumns n a p v) (AreColumnsByTransposed n a p v)
+
 -- ---- the inverse
 -- a column past the last has no numbers
 abbrev pub column_at : List Column → ℕ → Column
@@ -76,13 +90,14 @@ AreJoined n kappa v e columns (Ok out) = IsTableOfColumns n kappa v e columns ou
 AreJoined n kappa v e columns (Err (Range row col)) = IsFirstLowerFailure n (IntervalFits kappa v e columns) row col
 AreJoined n kappa v e columns (Err other) = ⊥
 
--- what follows a pilot: the columns in order, and then the table of their intervals
+-- what follows a pilot: all columns by it or by its transpose, which has the same power, and then the table of their intervals
 abbrev pub IsInverseBy : ℕ → ℤ → Worked → PilotTable → Result SymTable InvError → Type 0
 IsInverseBy n kappa w p result =
-    (v : ℕ) × IsUnitPower p.g v × Then (AtEach (IsColumn n w.table p v) n) (AreJoined n kappa v (exponent_of w.exponents)) result
+    (v : ℕ) × IsUnitPower p.g v × Then (AreColumnsByEither n w.table p v) (AreJoined n kappa v (exponent_of w.exponents)) result
 
 -- The inverse of a table of intervals at kappa, or the first cause for which there is none: first the working table, then its pilot, then
--- column after column its start vector and its certificate, then the intervals row by row up to the diagonal.
+-- column after column its start vector and its certificate, by the pilot or, where that is refused, anew by the pilot transposed, then the
+-- intervals row by row up to the diagonal.
 abbrev pub IsInverted : SymTable → ℤ → Result SymTable InvError → Type 0
 IsInverted table kappa =
     Then (Renamed of_working (IsWorkingStep table.size (table_of table (replicate table.size zero_interval)))) (λ w.

@@ -1,5 +1,5 @@
 -- For private functions alone: a column of an inverse, and the columns so far in a table in memory.
-use Rattle.std.specs.Prelude.{◌≡◌, ◌≤◌, ◌<◌, ◌^◌, ℕ, ℤ, pos, ◌+ℤ◌, ◌-ℤ◌, List, length, Ok, Err}
+use Rattle.std.specs.Prelude.{◌≡◌, ◌≤◌, ◌<◌, ◌⊎◌, ◌^◌, ℕ, ℤ, pos, ◌+ℤ◌, ◌-ℤ◌, List, length, Ok, Err}
 use Rattle.whole_numbers.specs.Intervals.{Interval, size}
 use Rattle.whole_numbers.specs.Lists.{at, NonePast}
 use Rattle.whole_numbers.specs.Scaling.{interval_scale10}
@@ -8,8 +8,9 @@ use Rattle.sys_model.specs.Systems.{Encloses, around}
 use Rattle.equil.specs.Tables.{table_of}
 use Rattle.enclosures.specs.Pilots.{PilotTable}
 use Rattle.enclosures.specs.Vectors.{IsSmall}
+use Rattle.enclosure_check.specs.Enclosures.{IsTransposed}
 use Rattle.enclosure_check.specs.Steps.{certificate_of, radius_in}
-use Rattle.inv_enclose.specs.Columns.{IsUnitPower, IsUnitSide, Column, IsColumnOf, IsColumn, AtEach, column_at}
+use Rattle.inv_enclose.specs.Columns.{IsUnitPower, IsUnitSide, Column, IsColumnOf, AreColumns, AreColumnsByEither, column_at}
 use Rattle.inv_enclose.specs.declared.InvError.{InvError}
 use Rattle.inv_enclose.specs.declared.columns.EnclosedColumn.{EnclosedColumn}
 
@@ -54,14 +55,25 @@ pub record AreShown (n : ℕ) (a : SymTable) (p : PilotTable) (v : ℕ) (shift :
   pub each : (j : ℕ) → j < m → IsEnclosedColumn n a p v j (column_at columns j)
   pub shown : (i j : ℕ) → i < n → j ≤ i → j < m → IsKept (scaled_interval shift e (column_at columns j) i j) (entry_at out i j)
 
--- all columns stand in the table
+-- ---- all columns
+-- the table by which all columns are: p or, where a column by p is refused, p transposed
+abbrev pub IsTaken : ℕ → SymTable → PilotTable → ℕ → PilotTable → Type 0
+IsTaken n a p v q = (q ≡ p) ⊎ ((cause : InvError) × AreColumns n a p v (Err cause) × IsTransposed p q)
+
+-- all columns stand in the table, by p or by p transposed
+pub record AreShownByEither (n : ℕ) (a : SymTable) (p : PilotTable) (v : ℕ) (shift : ℤ) (e : ℕ → ℤ) (out : SymTable) : Type 0 where
+  pub taken : PilotTable
+  pub is_taken : IsTaken n a p v taken
+  pub shown : AreShown n a taken v shift e n out
+
+-- so they do, in units of 10^-(18 + kappa)
 pub record IsShownInverse (n : ℕ) (kappa : ℤ) (a : SymTable) (e : ℕ → ℤ) (p : PilotTable) (out : SymTable) : Type 0 where
   pub v : ℕ
   pub power : IsUnitPower p.g v
-  pub are : AreShown n a p v (kappa +ℤ pos 18 -ℤ pos v) e n out
+  pub are : AreShownByEither n a p v (kappa +ℤ pos 18 -ℤ pos v) e out
 
--- a column is refused
+-- a column by p is refused, and so is one by p transposed
 pub record IsColumnRefused (n : ℕ) (a : SymTable) (p : PilotTable) (cause : InvError) : Type 0 where
   pub v : ℕ
   pub power : IsUnitPower p.g v
-  pub first : AtEach (IsColumn n a p v) n (Err cause)
+  pub both : AreColumnsByEither n a p v (Err cause)

@@ -63,8 +63,8 @@ fn unit_side(alloc: Global, n: usize, v: u32, c: usize) -> Result<Vec<Iv>, Alloc
     Ok(d)
 }
 
-/// Column `c` of the inverse of a working table: its start vector and its certificate, from the defects of the pilot. It is work and
-/// memory of its own.
+/// Column `c` of the inverse of a working table: its start vector and its certificate, from the defects of the pilot, or of a table in its
+/// place. It is work and memory of its own.
 pub fn column<const N: usize>(
     alloc: Global,
     rows: &WorkingRows<'_, N>,

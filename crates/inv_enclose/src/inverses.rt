@@ -10,7 +10,7 @@ ghost use Rattle.inv_enclose.specs.declared.InvError.TheVariants.{Memory};
 use crate::InvError;
 use crate::columns::zeros;
 use crate::limits::first_past;
-use crate::tables::shown_inverse;
+use crate::tables::shown_by_either;
 use chol_guess::pilot;
 use equil::working;
 use std::alloc::Global;
@@ -22,9 +22,10 @@ use sym_blocks::SymBlock;
 ///
 /// # Errors
 ///
-/// The first cause for which there is none, exactly where a rule refuses: Range, of the working table; Pivot and Condition; then column by
-/// column Range of its start vector, with row and column, Residual and Defect; then Range of the intervals of the inverse past 10^34 in
-/// size, row by row up to the diagonal; or want of memory. The number of workers, from 1 to 16, has no effect yet.
+/// The first cause for which there is none, exactly where a rule refuses: Range, of the working table; Pivot and Condition; then, where a
+/// column by the pilot and one by the pilot transposed are refused, column by column of those by the pilot Range of its start vector, with
+/// row and column, Residual and Defect; then Range of the intervals of the inverse past 10^34 in size, row by row up to the diagonal; or
+/// want of memory. The number of workers, from 1 to 16, has no effect yet.
 pub fn inverse<R: Threads + Sync, const N: usize>(
     rt: &R,
     alloc: Global,
@@ -47,7 +48,7 @@ pub fn inverse<R: Threads + Sync, const N: usize>(
     let zeros = zeros(alloc, table.size())?;
     let w = working(alloc, table, &zeros)?;
     let pilot = pilot(rt, alloc, &w, workers)?;
-    let shown = shown_inverse(alloc, &w, &pilot, kappa)?;
+    let shown = shown_by_either(alloc, &w, &pilot, kappa)?;
     match first_past(&shown) {
         Some((row, col)) => Err(InvError::Range { row, col }),
         None => Ok(shown),

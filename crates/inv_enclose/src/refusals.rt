@@ -1,6 +1,6 @@
 //! The refusals of the steps, as refusals of an inverse.
 
-ghost use Rattle.std.specs.Prelude.{◌≡◌};
+ghost use Rattle.std.specs.Prelude.{◌≡◌, ◌↔◌, IsTrue};
 ghost use Rattle.inv_enclose.specs.Refusals.{of_working, of_pilot, of_vector, of_check};
 ghost use Rattle.inv_enclose.specs.declared.InvError.TheVariants.{Memory};
 
@@ -50,6 +50,16 @@ impl From<CheckError> for InvError {
             CheckError::Defect { row, parts } => InvError::Defect { row, parts },
             CheckError::Memory => InvError::Memory,
         }
+    }
+}
+
+/// Whether memory is wanting.
+pub fn wants_memory(refusal: InvError) -> bool
+    ensures { IsTrue result ↔ (refusal ≡ Memory) }
+{
+    match refusal {
+        InvError::Memory => true,
+        _ => false,
     }
 }
 

@@ -1,17 +1,19 @@
 //! The columns of an inverse in a table.
 
-ghost use Rattle.std.specs.Prelude.{◌≡◌, ◌≤◌, ◌<◌, ◌⊎◌, ◌^◌, ℕ, pos, negsuc, ◌+ℤ◌, ◌-ℤ◌, ◌≤ℤ◌, length, unsigned_abs, IfOk, IfErr};
+ghost use Rattle.std.specs.Prelude.{◌≡◌, ◌≤◌, ◌<◌, ◌⊎◌, ◌^◌, ℕ, pos, negsuc, ◌+ℤ◌, ◌-ℤ◌, ◌≤ℤ◌, length, unsigned_abs, IfOk, IfErr, Err};
 ghost use Rattle.whole_numbers.specs.Scaling.{interval_scale10};
 ghost use Rattle.sym_blocks.specs.Tables.{before, entry_at};
 ghost use Rattle.sys_model.specs.Systems.{around};
 ghost use Rattle.equil.specs.Rows.{AllInRange};
 ghost use Rattle.equil.specs.Tables.{exponent_of};
-ghost use Rattle.inv_enclose.specs.Parts.{column_of, IsInBounds, IsKept, scaled_interval, IsShownInverse, IsColumnRefused};
+ghost use Rattle.inv_enclose.specs.Columns.{AreColumns, AreColumnsByEither};
+ghost use Rattle.inv_enclose.specs.Parts.{column_of, IsInBounds, IsKept, scaled_interval, AreShown, AreShownByEither, IsShownInverse, IsColumnRefused};
 ghost use Rattle.inv_enclose.specs.declared.InvError.TheVariants.{Memory};
 
 use crate::InvError;
 use crate::columns::{EnclosedColumn, column, unit_power};
-use enclosure_check::{WorkingRows, defects};
+use crate::refusals::wants_memory;
+use enclosure_check::{WorkingRows, defects, transposed};
 use enclosures::Pilot;
 use equil::Working;
 use interval_word::Iv;
@@ -110,8 +112,69 @@ fn shift_of(kappa: i32, v: u32) -> i32
     kappa + 18 - v.cast_signed()
 }
 
-/// The inverse of a working table times 10^(18 + kappa - e_i - e_j), where intervals that pass their bound stand as too great ones.
-pub fn shown_inverse<const N: usize>(
+/// The inverse of a working table by one table in the place of the pilot, times 10^(shift - e_i - e_j), where intervals that pass their
+/// bound stand as too great ones.
+fn shown_inverse<const N: usize>(
+    alloc: Global,
+    rows: &WorkingRows<'_, N>,
+    exponents: &[i32],
+    pilot: &Pilot,
+    v: u32,
+    shift: i32,
+) -> Result<SymBlock<N>, InvError>
+    requires low { negsuc 199 ≤ℤ shift }
+    requires high { shift ≤ℤ pos 200 }
+    requires power { v ≤ 34 }
+    requires sizes { pilot.now.size ≡ rows.now.table.now.size }
+    requires exponents { length exponents.now ≡ rows.now.table.now.size }
+    requires range { AllInRange exponents.now }
+    ensures size { IfOk result (λ out. out.size ≡ rows.now.table.now.size) }
+    ensures whole { IfOk result (λ out. length out.entries ≡ before out.size) }
+    ensures shown { IfOk result (AreShown rows.now.table.now.size rows.now.table.now pilot.now v shift (exponent_of exponents.now) rows.now.table.now.size) }
+    ensures refused { IfErr result (λ cause. (cause ≡ Memory) ⊎ AreColumns rows.now.table.now.size rows.now.table.now pilot.now v (Err cause)) }
+{
+    let row_defects = defects(alloc, rows, pilot)?;
+    let mut out = SymBlock::<N>::zero(alloc, rows.table.size())?;
+    for c in 0..out.size() {
+        let enclosed = column(alloc, rows, pilot, &row_defects, v, c)?;
+        place_column(&mut out, &enclosed, shift, exponents, c);
+    }
+    Ok(out)
+}
+
+/// The inverse by the pilot transposed, where the pilot itself was refused; where the transpose is refused too, that refusal.
+fn shown_by_transposed<const N: usize>(
+    alloc: Global,
+    rows: &WorkingRows<'_, N>,
+    exponents: &[i32],
+    pilot: &Pilot,
+    v: u32,
+    shift: i32,
+    refusal: InvError,
+) -> Result<SymBlock<N>, InvError>
+    requires low { negsuc 199 ≤ℤ shift }
+    requires high { shift ≤ℤ pos 200 }
+    requires power { v ≤ 34 }
+    requires sizes { pilot.now.size ≡ rows.now.table.now.size }
+    requires exponents { length exponents.now ≡ rows.now.table.now.size }
+    requires range { AllInRange exponents.now }
+    requires refused { AreColumns rows.now.table.now.size rows.now.table.now pilot.now v (Err refusal) }
+    ensures size { IfOk result (λ out. out.size ≡ rows.now.table.now.size) }
+    ensures whole { IfOk result (λ out. length out.entries ≡ before out.size) }
+    ensures shown { IfOk result (AreShownByEither rows.now.table.now.size rows.now.table.now pilot.now v shift (exponent_of exponents.now)) }
+    ensures refused { IfErr result (λ cause. (cause ≡ Memory) ⊎ AreColumnsByEither rows.now.table.now.size rows.now.table.now pilot.now v (Err cause)) }
+{
+    let turned = transposed(alloc, pilot)?;
+    match shown_inverse(alloc, rows, exponents, &turned, v, shift) {
+        Ok(shown) => Ok(shown),
+        Err(InvError::Memory) => Err(InvError::Memory),
+        Err(_) => Err(refusal),
+    }
+}
+
+/// The inverse of a working table times 10^(18 + kappa - e_i - e_j), where intervals that pass their bound stand as too great ones: by
+/// the pilot or, where a column of it is refused, by the pilot transposed; where both are refused, the refusal is that of the pilot.
+pub fn shown_by_either<const N: usize>(
     alloc: Global,
     w: &Working<N>,
     pilot: &Pilot,
@@ -126,13 +189,16 @@ pub fn shown_inverse<const N: usize>(
     ensures refused { IfErr result (λ cause. (cause ≡ Memory) ⊎ IsColumnRefused w.now.a.size w.now.a pilot.now cause) }
 {
     let rows = WorkingRows::of(alloc, &w.a)?;
-    let row_defects = defects(alloc, &rows, pilot)?;
     let v = unit_power(pilot.g());
     let shift = shift_of(kappa, v);
-    let mut out = SymBlock::<N>::zero(alloc, w.a.size())?;
-    for c in 0..out.size() {
-        let enclosed = column(alloc, &rows, pilot, &row_defects, v, c)?;
-        place_column(&mut out, &enclosed, shift, &w.e, c);
+    match shown_inverse(alloc, &rows, &w.e, pilot, v, shift) {
+        Ok(shown) => Ok(shown),
+        Err(refusal) => {
+            if wants_memory(refusal) {
+                Err(refusal)
+            } else {
+                shown_by_transposed(alloc, &rows, &w.e, pilot, v, shift, refusal)
+            }
+        }
     }
-    Ok(out)
 }

@@ -13,6 +13,12 @@ const ONE: i128 = 1_000_000_000_000_000_000_000_000;
 /// One, in the inverse.
 const UNIT: i128 = 1_000_000_000_000_000_000;
 
+/// What all elements of a loose table have in common.
+const LOOSE: i128 = 1_000_000_000 * ONE;
+
+/// The same of a looser one.
+const LOOSER: i128 = 100_000_000_000_000 * ONE;
+
 fn of_one<R: Threads + Sync, const N: usize>(
     rt: &R,
     alloc: Global,
@@ -69,6 +75,23 @@ fn each_answer<R: Threads + Sync, const N: usize>(rt: &R, alloc: Global) -> bool
             == Some(InvError::Range { row: 1, col: 0 })
 }
 
+// The inverse of (d + 1, d; d, d + 2) is (d + 2, -d; -d, d + 1) over 3 d + 2. Of the first table the pilot is refused and its transpose
+// is not, of the second both are: the transpose at row 1.
+fn second_tries<R: Threads + Sync, const N: usize>(rt: &R, alloc: Global) -> bool {
+    let given = match of_two::<R, N>(rt, alloc, LOOSE + ONE, LOOSE, LOOSE + 2 * ONE) {
+        Ok((corner, low, last)) => is_near(&corner, 333_333_333_777_777_777)
+            && is_near(&low, -333_333_333_111_111_111)
+            && is_near(&last, 333_333_333_444_444_444),
+        Err(_) => false,
+    };
+    given
+        && of_two::<R, N>(rt, alloc, LOOSER + ONE, LOOSER, LOOSER + 2 * ONE).err()
+            == Some(InvError::Defect {
+                row: 0,
+                parts: 1 << 31,
+            })
+}
+
 fn crosses_threads<T: Send + Sync>() {}
 
 #[test]
@@ -78,5 +101,8 @@ fn tables_of_each_tile(rt: HostRuntime) -> Result<(), Fail> {
     assert!(rt; each_answer::<HostRuntime, 1>(&rt, rt.alloc()));
     assert!(rt; each_answer::<HostRuntime, 3>(&rt, rt.alloc()));
     assert!(rt; each_answer::<HostRuntime, 16>(&rt, rt.alloc()));
+    assert!(rt; second_tries::<HostRuntime, 1>(&rt, rt.alloc()));
+    assert!(rt; second_tries::<HostRuntime, 3>(&rt, rt.alloc()));
+    assert!(rt; second_tries::<HostRuntime, 16>(&rt, rt.alloc()));
     Ok(())
 }

@@ -30,14 +30,18 @@ LineMap = BTreeMap SiteName (Bor SiteRow)
 
 -- the map has of each name the line that comes first
 abbrev pub HasFirstLines : LineMap → List PlainSite → Type 0
-HasFirstLines table all = (name : SiteName) → option_map (λ line. site_view line.now) (get site_name_cmp table name) ≡ find (is_line_of name) all
+HasFirstLines table all =
+    (name : SiteName) → option_map (λ line. site_view line.now) (get site_name_cmp table name) ≡ find (is_line_of name) all
 
 -- ---- moments
 abbrev pub solution_name : PlainEpochRow → SolutionName
 solution_name row = record { code = row.code; point = row.point; soln = row.soln }
 
 abbrev pub solution_name_cmp : SolutionName → SolutionName → Ordering
-solution_name_cmp a b = ordering_then (slice_cmp nat_cmp a.code b.code) (ordering_then (slice_cmp nat_cmp a.point b.point) (slice_cmp nat_cmp a.soln b.soln))
+solution_name_cmp a b =
+    ordering_then (slice_cmp nat_cmp a.code b.code)
+    (ordering_then (slice_cmp nat_cmp a.point b.point)
+    (slice_cmp nat_cmp a.soln b.soln))
 
 -- whether a row is of this name
 abbrev pub is_row_of : SolutionName → PlainEpochRow → Bool

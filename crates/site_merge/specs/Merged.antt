@@ -2,8 +2,9 @@
 --
 -- The documents stand in the order of the names of their files, and a document that lacks a block has no rows of it. Nothing else has
 -- a part in what is merged.
-use Rattle.std.specs.Prelude.{◌≡◌, ◌≢◌, ◌↔◌, Bool, List, [], map, filter, find, fold, flat_map, unwrap_or, Some, All, Contains, if◌then◌else◌}
+use Rattle.std.specs.Prelude.{◌≡◌, ◌≢◌, ◌↔◌, Bool, List, [], map, unwrap_or, Some, All, Contains, if◌then◌else◌}
 use Rattle.std.specs.Cmp.Lexicographic.{slice_cmp}
+use Rattle.std.specs.List.{filter, find, flat_map, fold}
 use Rattle.std.specs.List.Sorted.{IsStrictlySortedBy}
 use Rattle.std.specs.Ordering.{nat_cmp, ordering_then, is_eq, is_lt}
 use Rattle.std.specs.declared.cmp.Ordering.{Ordering}
@@ -43,7 +44,8 @@ pub record AreMergedSites (all lines : List PlainSite) : Type 0 where
 -- the least of some moments, of which those that are Never do not count; Never where there is no other
 abbrev pub IsEarliest : List Epoch → Epoch → Type 0
 IsEarliest moments Never = All (λ other. other ≡ Never) moments
-IsEarliest moments (At day second) = Contains moments (At day second) × All (λ other. other ≢ Never → epoch_cmp other (At day second) ≢ Less) moments
+IsEarliest moments (At day second) =
+    Contains moments (At day second) × All (λ other. other ≢ Never → epoch_cmp other (At day second) ≢ Less) moments
 
 -- the greatest of them
 abbrev pub IsLatest : List Epoch → Epoch → Type 0
@@ -52,7 +54,10 @@ IsLatest moments (At day second) = Contains moments (At day second) × All (λ o
 
 -- moments go by the code, the point and the solution that they are of, by their bytes
 abbrev pub solution_cmp : PlainEpochRow → PlainEpochRow → Ordering
-solution_cmp a b = ordering_then (slice_cmp nat_cmp a.code b.code) (ordering_then (slice_cmp nat_cmp a.point b.point) (slice_cmp nat_cmp a.soln b.soln))
+solution_cmp a b =
+    ordering_then (slice_cmp nat_cmp a.code b.code)
+    (ordering_then (slice_cmp nat_cmp a.point b.point)
+    (slice_cmp nat_cmp a.soln b.soln))
 
 abbrev pub is_same_solution : PlainEpochRow → PlainEpochRow → Bool
 is_same_solution a b = is_eq (solution_cmp a b)

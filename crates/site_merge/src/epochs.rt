@@ -51,7 +51,8 @@ fn joined_in(table: &EpochMap, name: &SolutionName, row: &EpochRow) -> EpochRow
 
 /// Adds a row to those before it.
 fn add_row(table: &mut EpochMap, row: &EpochRow) -> Result<(), AllocError>
-    ensures { (before : List PlainEpochRow) → HasMergedRows table.old before → IfOk result (λ _. HasMergedRows table.new (before ++ row.now ∷ [])) }
+    ensures { (before : List PlainEpochRow) → HasMergedRows table.old before
+        → IfOk result (λ _. HasMergedRows table.new (before ++ row.now ∷ [])) }
 {
     let name = SolutionName::of(row);
     let joined = joined_in(table, &name, row);
@@ -64,7 +65,8 @@ fn add_row(table: &mut EpochMap, row: &EpochRow) -> Result<(), AllocError>
 
 /// Adds the rows of a document to those before them.
 fn add_rows(table: &mut EpochMap, rows: &[EpochRow]) -> Result<(), AllocError>
-    ensures { (before : List PlainEpochRow) → HasMergedRows table.old before → IfOk result (λ _. HasMergedRows table.new (before ++ rows.now)) }
+    ensures { (before : List PlainEpochRow) → HasMergedRows table.old before
+        → IfOk result (λ _. HasMergedRows table.new (before ++ rows.now)) }
 {
     for row in rows {
         add_row(table, row)?;

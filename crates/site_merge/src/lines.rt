@@ -19,7 +19,8 @@ type LineMap<'a> = BTreeMap<SiteName, &'a SiteRow>;
 
 /// Adds a line to those before it: it counts if it is the first of its site.
 fn add_line<'a>(table: &mut LineMap<'a>, line: &'a SiteRow) -> Result<(), AllocError>
-    ensures { (before : List PlainSite) → HasFirstLines table.old before → IfOk result (λ _. HasFirstLines table.new (before ++ site_view line.now ∷ [])) }
+    ensures { (before : List PlainSite) → HasFirstLines table.old before
+        → IfOk result (λ _. HasFirstLines table.new (before ++ site_view line.now ∷ [])) }
 {
     let name = SiteName::of(line);
     if table.contains_key(&name) {
@@ -33,7 +34,8 @@ fn add_line<'a>(table: &mut LineMap<'a>, line: &'a SiteRow) -> Result<(), AllocE
 
 /// Adds the lines of a document to those before them.
 fn add_lines<'a>(table: &mut LineMap<'a>, lines: &'a [SiteRow]) -> Result<(), AllocError>
-    ensures { (before : List PlainSite) → HasFirstLines table.old before → IfOk result (λ _. HasFirstLines table.new (before ++ map site_view lines.now)) }
+    ensures { (before : List PlainSite) → HasFirstLines table.old before
+        → IfOk result (λ _. HasFirstLines table.new (before ++ map site_view lines.now)) }
 {
     for line in lines {
         add_line(table, line)?;

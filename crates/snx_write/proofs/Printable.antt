@@ -1,5 +1,5 @@
 -- Which numbers can be printed.
-use Rattle.std.proofs.Common.{◌≡◌, ◌≤◌, ◌<◌, ◌*◌, ◌^◌, ℕ, zero, suc, ℤ, pos, negsuc, ◌≤ℤ◌, Bool, true, false, nat_lt, ◌==◌, if◌then◌else◌, unsigned_abs, refl, arith}
+use Rattle.std.proofs.Common.{◌≡◌, ◌≤◌, ◌<◌, ◌*◌, ◌^◌, ℕ, zero, suc, ℤ, pos, negsuc, ◌≤ℤ◌, Bool, true, false, nat_lt, ◌==◌, if◌then◌else◌, unsigned_abs, refl, lit≤, arith}
 use Rattle.std.proofs.Math.IntN.{◌+ℤ◌, ◌*ℤ◌}
 use Rattle.std.proofs.Math.Nat.{mul-le-mul_right}
 use Rattle.std.proofs.Math.Decide.{dec_lt}
@@ -10,17 +10,9 @@ use Rattle.whole_numbers.specs.Scaling.{ten_above, ten_below}
 use Rattle.decimal_e.specs.Decimals.{Decimal, IsBounded}
 use Rattle.decimal_e.specs.Fractions.{IsAtMost}
 use Rattle.decimal_text.specs.Texts.{places, printed_exponent}
-use Rattle.decimal_text.proofs.Places.{many_at, few_beyond, few_at_places, many_before_places}
+use Rattle.decimal_text.proofs.Places.{many_at, few_at_places, places_most}
 use Rattle.snx_write.specs.Combined.{is_tiny}
 use Rattle.snx_write.specs.Numbers.{IsPrintable}
-
--- a number below 10^j has at most j + 1 places
-places_most : (digits size j : ℕ) → size < 10 ^ j → places digits size ≤ suc j
-places_most digits size j h =
-    elim (dec_lt (suc j) (places digits size)) [
-      | yes l ↦ let many = many_before_places digits size (suc j) l in let few = few_beyond digits size j h in absurd (omega arith)
-      | no l ↦ omega arith
-    ]
 
 -- a number that is at least 10^j has more than j
 places_least : (digits size j : ℕ) → size < 10 ^ 62 → 10 ^ j ≤ size → j < places digits size
@@ -43,14 +35,14 @@ small_exponent : (digits size : ℕ) (exp : ℤ) → negsuc 98 ≤ℤ (exp +ℤ 
 small_exponent digits size exp low high = either_small (size == 0) (exp +ℤ pos (places digits size)) (omega (arith, ints))
 
 -- a number below 10^j, in units of a power from -99 to 98 - j
-pub printable_within : (digits j : ℕ) (mant exp : ℤ) → unsigned_abs mant < 10 ^ j → negsuc 98 ≤ℤ exp → (exp +ℤ pos (suc j)) ≤ℤ pos 99 → IsPrintable digits mant exp
-printable_within digits j mant exp small low high =
-    let most = places_most digits (unsigned_abs mant) j small in
+pub printable_within : (digits j : ℕ) (mant exp : ℤ) → j ≤ 62 → unsigned_abs mant < 10 ^ j → negsuc 98 ≤ℤ exp → (exp +ℤ pos (suc j)) ≤ℤ pos 99 → IsPrintable digits mant exp
+printable_within digits j mant exp few small low high =
+    let most = places_most digits (unsigned_abs mant) j small few in
     record { low = omega (arith, ints); high = omega (arith, ints); exponent = small_exponent digits (unsigned_abs mant) exp (omega (arith, ints)) (omega (arith, ints)) }
 
 -- each number of 128 bits, in units of a power from -99 to 59
 pub printable_near : (digits : ℕ) (mant exp : ℤ) → unsigned_abs mant ≤ 2 ^ 127 → negsuc 98 ≤ℤ exp → exp ≤ℤ pos 59 → IsPrintable digits mant exp
-printable_near digits mant exp small low high = printable_within digits 39 mant exp (omega arith) low (omega (arith, ints))
+printable_near digits mant exp small low high = printable_within digits 39 mant exp (lit≤ tt) (omega arith) low (omega (arith, ints))
 
 -- a value that is not tiny is not zero
 some_size : (size : ℕ) (z : ℤ) → nat_lt (size * ten_above z) (ten_below z) ≡ false → 1 ≤ size
@@ -86,5 +78,5 @@ printable_value d bounded modest not_tiny =
     let some = some_size size (d.exp +ℤ pos 99) not_tiny in
     let low = not_below size d.exp (d.exp +ℤ pos 99) refl bounded.mant not_tiny in
     let high = not_above d.mant d.exp modest some in
-    let most = places_most 15 size 36 bounded.mant in
+    let most = places_most 15 size 36 bounded.mant (lit≤ tt) in
     record { low = omega (arith, ints, bounded.low); high = omega (arith, ints); exponent = small_exponent 15 size d.exp low (omega (arith, ints)) }

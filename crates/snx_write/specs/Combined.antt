@@ -1,7 +1,6 @@
 -- The combined file: a sum of normal equations, its solution, and the sites and moments of all files (SINEX 2.02 format description).
 use Rattle.std.specs.Prelude.{◌++◌, ◌-◌, ◌*◌, ◌&&◌, ℕ, suc, ℤ, pos, negsuc, ◌+ℤ◌, ◌-ℤ◌, Bool, false, if◌then◌else◌, List, [], ◌∷◌, length, map, min, replicate, codes, Option, Some, None, is_some, unsigned_abs, nat_lt}
 use Rattle.std.specs.List.{flat_map, join_with_byte, list_any, range_with_len, zip}
-use Rattle.std.specs.Fmt.{decimal}
 use Rattle.blanks.specs.Blanks.{trimmed, right_aligned, right_justified}
 use Rattle.whole_numbers.specs.Intervals.{Interval, midpoint}
 use Rattle.whole_numbers.specs.Lists.{at}
@@ -9,7 +8,7 @@ use Rattle.whole_numbers.specs.Quotients.{up_over}
 use Rattle.whole_numbers.specs.Scaling.{ten_above, ten_below}
 use Rattle.sym_blocks.specs.Tables.{entry_at}
 use Rattle.decimal_e.specs.Decimals.{Decimal}
-use Rattle.decimal_text.specs.Texts.{e_text}
+use Rattle.decimal_text.specs.Texts.{e_text, zero_padded}
 use Rattle.snx_epoch.specs.Moments.{epoch_text}
 use Rattle.param_ids.specs.Plain.{PlainId}
 use Rattle.param_ids.specs.Labels.{label_text}
@@ -37,10 +36,6 @@ block title lines = (43 ∷ title) ∷ (lines ++ ((45 ∷ title) ∷ []))
 abbrev pub left_aligned : ℕ → List ℕ → List ℕ
 left_aligned width text = text ++ replicate (width - length text) 32
 
--- a number in five digits, with zeros before it
-abbrev pub five_digits : ℕ → List ℕ
-five_digits n = replicate (5 - length (decimal n)) 48 ++ decimal n
-
 -- the constraint code: 1 for what is held by a datum, else 2
 abbrev pub constraint_code : Bool → List ℕ
 constraint_code held = if held then codes "1" else codes "2"
@@ -53,7 +48,7 @@ first_line control moments count =
     line (
     codes "%=SNX" ∷ codes "2.02" ∷ control.header.agency ∷ epoch_text control.header.created
     ∷ control.header.agency ∷ epoch_text (first_start moments) ∷ epoch_text (last_end moments)
-    ∷ (control.header.technique ∷ []) ∷ five_digits count ∷ constraint_code (is_some control.datum) ∷ (control.header.content ∷ [])
+    ∷ (control.header.technique ∷ []) ∷ zero_padded 5 count ∷ constraint_code (is_some control.datum) ∷ (control.header.content ∷ [])
     ∷ [])
 
 -- ---- FILE/REFERENCE: what is said in columns 2 to 19, its text from column 21 on; an empty text is not given
@@ -112,9 +107,9 @@ parameter_lines datum index (id ∷ ids) (unit ∷ units) (numbers ∷ rest) =
     parameter_line datum index id unit numbers ∷ parameter_lines datum (suc index) ids units rest
 parameter_lines datum index ids units rest = []
 
--- the block of these numbers of the parameters
-abbrev pub parameter_block : List ℕ → Option PlainDatum → PlainNeq → List (List (List ℕ)) → List (List ℕ)
-parameter_block title datum neq numbers = block title (parameter_lines datum 1 neq.names neq.units numbers)
+-- those of all parameters, with these numbers
+abbrev pub all_parameters : Option PlainDatum → PlainNeq → List (List (List ℕ)) → List (List ℕ)
+all_parameters datum neq numbers = parameter_lines datum 1 neq.names neq.units numbers
 
 -- mant * 10^exp with 15 digits, at the right of columns 48 to 68
 abbrev pub value_text : ℤ → ℤ → List ℕ
@@ -128,8 +123,11 @@ deviation_text mant exp = right_aligned 11 (e_text 6 mant exp)
 abbrev pub estimate_numbers : Printed → List (List ℕ)
 estimate_numbers row = value_text row.estimate (negsuc 15) ∷ deviation_text (pos row.deviation) row.deviation_place ∷ []
 
+abbrev pub estimate_lines : Option PlainDatum → PlainNeq → List Printed → List (List ℕ)
+estimate_lines datum neq rows = all_parameters datum neq (map estimate_numbers rows)
+
 abbrev pub estimate_block : Option PlainDatum → PlainNeq → List Printed → List (List ℕ)
-estimate_block datum neq rows = parameter_block (codes "SOLUTION/ESTIMATE") datum neq (map estimate_numbers rows)
+estimate_block datum neq rows = block (codes "SOLUTION/ESTIMATE") (estimate_lines datum neq rows)
 
 -- ---- SOLUTION/APRIORI: the a priori values, with deviation zero; a value below 10^-99 in size is written as zero
 abbrev pub is_tiny : Decimal → Bool
@@ -141,18 +139,24 @@ apriori_text d = if is_tiny d then value_text (pos 0) (pos 0) else value_text d.
 abbrev pub apriori_numbers : Decimal → List (List ℕ)
 apriori_numbers d = apriori_text d ∷ deviation_text (pos 0) (pos 0) ∷ []
 
+abbrev pub apriori_lines : Option PlainDatum → PlainNeq → List (List ℕ)
+apriori_lines datum neq = all_parameters datum neq (map apriori_numbers neq.apriori)
+
 abbrev pub apriori_block : Option PlainDatum → PlainNeq → List (List ℕ)
-apriori_block datum neq = parameter_block (codes "SOLUTION/APRIORI") datum neq (map apriori_numbers neq.apriori)
+apriori_block datum neq = block (codes "SOLUTION/APRIORI") (apriori_lines datum neq)
 
 -- ---- SOLUTION/NORMAL_EQUATION_VECTOR: the midpoints of the right side, in units of 10^(t - 18) with the scale exponent t
 abbrev pub vector_numbers : Interval × ℤ → List (List ℕ)
 vector_numbers p = value_text (midpoint p.0) (p.1 -ℤ pos 18) ∷ []
 
+abbrev pub vector_lines : Option PlainDatum → PlainNeq → List (List ℕ)
+vector_lines datum neq = all_parameters datum neq (map vector_numbers (zip neq.right neq.scales))
+
 abbrev pub vector_block : Option PlainDatum → PlainNeq → List (List ℕ)
-vector_block datum neq = parameter_block (codes "SOLUTION/NORMAL_EQUATION_VECTOR") datum neq (map vector_numbers (zip neq.right neq.scales))
+vector_block datum neq = block (codes "SOLUTION/NORMAL_EQUATION_VECTOR") (vector_lines datum neq)
 
 -- ---- SOLUTION/NORMAL_EQUATION_MATRIX L: the lower triangle. Rows and columns are counted from 0 here and from 1 in the file
--- the midpoint of the interval in row i and column j, in units of 10^(t_i + t_j - 18), with 14 digits in 21 columns
+-- the midpoint of the interval in row i and column j, in units of 10^(t_i + t_j - 18), with 14 digits, at the right of 21 columns
 abbrev pub element_text : PlainNeq → ℕ → ℕ → List ℕ
 element_text neq i j = right_aligned 21 (e_text 14 (midpoint (entry_at neq.table i j)) (at neq.scales i +ℤ at neq.scales j -ℤ pos 18))
 
@@ -168,8 +172,11 @@ matrix_line neq i k =
 abbrev pub row_lines : PlainNeq → ℕ → List (List ℕ)
 row_lines neq i = map (matrix_line neq i) (range_with_len 0 (up_over (suc i) 3))
 
+abbrev pub matrix_lines : PlainNeq → List (List ℕ)
+matrix_lines neq = flat_map (row_lines neq) (range_with_len 0 neq.table.size)
+
 abbrev pub matrix_block : PlainNeq → List (List ℕ)
-matrix_block neq = block (codes "SOLUTION/NORMAL_EQUATION_MATRIX L") (flat_map (row_lines neq) (range_with_len 0 neq.table.size))
+matrix_block neq = block (codes "SOLUTION/NORMAL_EQUATION_MATRIX L") (matrix_lines neq)
 
 -- ---- the whole file
 abbrev pub combined_lines : PlainControl → List (List ℕ) → PlainSites → PlainNeq → List Printed → List (List ℕ)

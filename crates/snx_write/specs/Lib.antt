@@ -1,2 +1,3 @@
+pub mod Adding
 pub mod Combined
 pub mod Numbers

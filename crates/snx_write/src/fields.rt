@@ -3,10 +3,11 @@
 ghost use Rattle.std.specs.Prelude.{◌≡◌, ◌≤◌, ◌<◌, ◌+◌, ◌-◌, ◌++◌, ◌∷◌, [], ◌^◌, ℕ, pos, negsuc, ◌≤ℤ◌, map, length, replicate, OnOk};
 ghost use Rattle.std.specs.List.{flat_map};
 ghost use Rattle.blanks.specs.Blanks.{trimmed, right_aligned, right_justified};
-ghost use Rattle.decimal_text.specs.Texts.{e_text};
+ghost use Rattle.decimal_text.specs.Texts.{e_text, zero_padded};
 ghost use Rattle.snx_write.specs.Numbers.{IsPrintable};
+ghost use Rattle.snx_write.specs.Adding.{Adds};
 ghost use Rattle.snx_write.specs.Combined as spec;
-ghost use Rattle.snx_write.specs.Combined.{text_of, line};
+ghost use Rattle.snx_write.specs.Combined.{line};
 
 use blanks::trim;
 use decimal_text::print_e;
@@ -26,7 +27,7 @@ pub(crate) fn push_fields(out: &mut Vec<u8>, fields: &[&[u8]]) -> Result<(), All
 
 /// Appends the line of a field and others.
 pub(crate) fn push_line(out: &mut Vec<u8>, first: &[u8], others: &[&[u8]]) -> Result<(), AllocError>
-    ensures { OnOk result (out.new.items ≡ out.old.items ++ text_of (line (first.now ∷ map (λ field. field.now) others.now) ∷ [])) }
+    ensures { OnOk result (Adds (line (first.now ∷ map (λ field. field.now) others.now) ∷ []) out.old.items out.new.items) }
 {
     out.extend_from_slice(first)?;
     push_fields(out, others)?;
@@ -106,7 +107,7 @@ pub(crate) fn count_field(count: usize) -> [u8; 22]
 /// A number below 100,000 in five digits.
 pub(crate) fn five_digits(n: usize) -> [u8; 5]
     requires { n < 100000 }
-    ensures { result ≡ spec.five_digits n }
+    ensures { result ≡ zero_padded 5 n }
 {
     let mut buffer = Buffer::new();
     let mut field = [b'0'; 5];

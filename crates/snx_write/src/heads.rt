@@ -3,8 +3,8 @@
 ghost use Rattle.std.specs.Prelude.{◌≡◌, ◌≤◌, ◌<◌, ◌++◌, ◌∷◌, [], is_some, map, length, OnOk};
 ghost use Rattle.snx_epoch.specs.Moments.{IsMoment};
 ghost use Rattle.control_doc.specs.Views.{control_view};
+ghost use Rattle.snx_write.specs.Adding.{Adds};
 ghost use Rattle.snx_write.specs.Combined as spec;
-ghost use Rattle.snx_write.specs.Combined.{text_of};
 
 use crate::fields::{constraint_code, count_field, five_digits, push_line, what_field};
 use control_doc::Control;
@@ -32,7 +32,7 @@ pub(crate) fn push_first_line(
 ) -> Result<(), AllocError>
     requires created { IsMoment control.now.created }
     requires count { count < 100000 }
-    ensures { OnOk result (out.new.items ≡ out.old.items ++ text_of (spec.first_line (control_view control.now) moments.now count ∷ [])) }
+    ensures { OnOk result (Adds (spec.first_line (control_view control.now) moments.now count ∷ []) out.old.items out.new.items) }
 {
     let (start, end) = span(moments);
     let others: [&[u8]; 10] = [
@@ -53,7 +53,7 @@ pub(crate) fn push_first_line(
 /// Appends a line of FILE/REFERENCE, where its text is given.
 fn push_given(out: &mut Vec<u8>, what: &[u8], text: &[u8]) -> Result<(), AllocError>
     requires { length what.now ≤ 18 }
-    ensures { OnOk result (out.new.items ≡ out.old.items ++ text_of (spec.given_line what.now text.now)) }
+    ensures { OnOk result (Adds (spec.given_line what.now text.now) out.old.items out.new.items) }
 {
     if text.is_empty() {
         return Ok(());
@@ -63,7 +63,7 @@ fn push_given(out: &mut Vec<u8>, what: &[u8], text: &[u8]) -> Result<(), AllocEr
 
 /// Appends FILE/REFERENCE.
 pub(crate) fn push_references(out: &mut Vec<u8>, control: &Control) -> Result<(), AllocError>
-    ensures { OnOk result (out.new.items ≡ out.old.items ++ text_of (spec.reference_block (control_view control.now).header)) }
+    ensures { OnOk result (Adds (spec.reference_block (control_view control.now).header) out.old.items out.new.items) }
 {
     push_line(out, b"+FILE/REFERENCE", &[])?;
     push_given(out, b"DESCRIPTION", control.description.as_bytes())?;
@@ -75,7 +75,7 @@ pub(crate) fn push_references(out: &mut Vec<u8>, control: &Control) -> Result<()
 
 /// Appends the lines of these names.
 fn push_names(out: &mut Vec<u8>, files: &[&str]) -> Result<(), AllocError>
-    ensures { OnOk result (out.new.items ≡ out.old.items ++ text_of (map spec.comment_line (map (λ file. file.now) files.now))) }
+    ensures { OnOk result (Adds (map spec.comment_line (map (λ file. file.now) files.now)) out.old.items out.new.items) }
 {
     for file in files {
         push_line(out, b"", &[b"INPUT", file.as_bytes()])?;
@@ -85,7 +85,7 @@ fn push_names(out: &mut Vec<u8>, files: &[&str]) -> Result<(), AllocError>
 
 /// Appends FILE/COMMENT, with the names of the files.
 pub(crate) fn push_comments(out: &mut Vec<u8>, files: &[&str]) -> Result<(), AllocError>
-    ensures { OnOk result (out.new.items ≡ out.old.items ++ text_of (spec.comment_block (map (λ file. file.now) files.now))) }
+    ensures { OnOk result (Adds (spec.comment_block (map (λ file. file.now) files.now)) out.old.items out.new.items) }
 {
     push_line(out, b"+FILE/COMMENT", &[])?;
     push_names(out, files)?;
@@ -94,7 +94,7 @@ pub(crate) fn push_comments(out: &mut Vec<u8>, files: &[&str]) -> Result<(), All
 
 /// Appends SOLUTION/STATISTICS, with the number of parameters.
 pub(crate) fn push_statistics(out: &mut Vec<u8>, count: usize) -> Result<(), AllocError>
-    ensures { OnOk result (out.new.items ≡ out.old.items ++ text_of (spec.statistics_block count)) }
+    ensures { OnOk result (Adds (spec.statistics_block count) out.old.items out.new.items) }
 {
     push_line(out, b"+SOLUTION/STATISTICS", &[])?;
     push_line(

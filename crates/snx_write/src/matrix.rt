@@ -5,8 +5,8 @@ ghost use Rattle.std.specs.List.{flat_map, range_with_len};
 ghost use Rattle.whole_numbers.specs.Lists.{at};
 ghost use Rattle.param_ids.specs.Tables.{IsScale};
 ghost use Rattle.neq_stack.specs.Neqs.{IsSound, neq_view};
+ghost use Rattle.snx_write.specs.Adding.{Adds};
 ghost use Rattle.snx_write.specs.Combined as spec;
-ghost use Rattle.snx_write.specs.Combined.{text_of};
 
 use crate::fields::{index_field, near_field, push_line};
 use crate::parameters::scale_of;
@@ -48,7 +48,7 @@ fn push_matrix_line<const N: usize>(
     requires sound { IsSound (neq_view free.now) }
     requires row { i < free.now.table.size }
     requires line { 3 * k ≤ i }
-    ensures { OnOk result (out.new.items ≡ out.old.items ++ text_of (spec.matrix_line (neq_view free.now) i k ∷ [])) }
+    ensures { OnOk result (Adds (spec.matrix_line (neq_view free.now) i k ∷ []) out.old.items out.new.items) }
 {
     let first = 3 * k;
     let row = index_field(i + 1);
@@ -73,7 +73,7 @@ fn push_matrix_row<const N: usize>(
 ) -> Result<(), AllocError>
     requires sound { IsSound (neq_view free.now) }
     requires row { i < free.now.table.size }
-    ensures { OnOk result (out.new.items ≡ out.old.items ++ text_of (spec.row_lines (neq_view free.now) i)) }
+    ensures { OnOk result (Adds (spec.row_lines (neq_view free.now) i) out.old.items out.new.items) }
 {
     for k in 0..i / 3 + 1 {
         push_matrix_line(out, free, i, k)?;
@@ -84,7 +84,7 @@ fn push_matrix_row<const N: usize>(
 /// Appends the lines of all rows.
 fn push_matrix_rows<const N: usize>(out: &mut Vec<u8>, free: &Neq<N>) -> Result<(), AllocError>
     requires { IsSound (neq_view free.now) }
-    ensures { OnOk result (out.new.items ≡ out.old.items ++ text_of (flat_map (spec.row_lines (neq_view free.now)) (range_with_len 0 free.now.table.size))) }
+    ensures { OnOk result (Adds (spec.matrix_lines (neq_view free.now)) out.old.items out.new.items) }
 {
     for i in 0..free.table.size() {
         push_matrix_row(out, free, i)?;
@@ -98,7 +98,7 @@ pub(crate) fn push_matrix<const N: usize>(
     free: &Neq<N>,
 ) -> Result<(), AllocError>
     requires { IsSound (neq_view free.now) }
-    ensures { OnOk result (out.new.items ≡ out.old.items ++ text_of (spec.matrix_block (neq_view free.now))) }
+    ensures { OnOk result (Adds (spec.matrix_block (neq_view free.now)) out.old.items out.new.items) }
 {
     push_line(out, b"+SOLUTION/NORMAL_EQUATION_MATRIX L", &[])?;
     push_matrix_rows(out, free)?;

@@ -10,8 +10,8 @@ ghost use Rattle.neq_stack.specs.Neqs.{IsSound, neq_view};
 ghost use Rattle.param_ids.specs.Tables.{IsScale};
 ghost use Rattle.datum_rows.specs.Sites as coordinates;
 ghost use Rattle.bounds_report.specs.Printing.{HasSmallDeviation};
+ghost use Rattle.snx_write.specs.Adding.{Adds};
 ghost use Rattle.snx_write.specs.Combined as spec;
-ghost use Rattle.snx_write.specs.Combined.{text_of};
 
 use crate::fields::{
     constraint_code, deviation_field, near_field, number_field, push_fields, push_line,
@@ -65,7 +65,9 @@ fn push_parameter(
     unit: &[u8; 4],
     numbers: &[&[u8]],
 ) -> Result<(), AllocError>
-    ensures { OnOk result (out.new.items ≡ out.old.items ++ text_of (spec.parameter_line (option_map datum_view datum.now) index id.now unit.now (map (λ number. number.now) numbers.now) ∷ [])) }
+    ensures { OnOk result (Adds
+        (spec.parameter_line (option_map datum_view datum.now) index id.now unit.now (map (λ number. number.now) numbers.now) ∷ [])
+        out.old.items out.new.items) }
 {
     push_label(out, index, id, unit)?;
     push_fields(out, &[&constraint_code(is_held(datum, id))])?;
@@ -117,7 +119,8 @@ fn push_estimate_lines<const N: usize>(
     requires sound { IsSound (neq_view free.now) }
     requires rows { length rows.now ≡ length free.now.names }
     requires small { All HasSmallDeviation rows.now }
-    ensures { OnOk result (out.new.items ≡ out.old.items ++ text_of (spec.parameter_lines (option_map datum_view datum.now) 1 free.now.names free.now.units.items (map spec.estimate_numbers rows.now))) }
+    ensures { OnOk result (Adds
+        (spec.estimate_lines (option_map datum_view datum.now) (neq_view free.now) rows.now) out.old.items out.new.items) }
 {
     for k in 0..free.names.len() {
         let id = free.names.at(k);
@@ -140,7 +143,8 @@ pub(crate) fn push_estimates<const N: usize>(
     requires sound { IsSound (neq_view free.now) }
     requires rows { length rows.now ≡ length free.now.names }
     requires small { All HasSmallDeviation rows.now }
-    ensures { OnOk result (out.new.items ≡ out.old.items ++ text_of (spec.estimate_block (option_map datum_view datum.now) (neq_view free.now) rows.now)) }
+    ensures { OnOk result (Adds
+        (spec.estimate_block (option_map datum_view datum.now) (neq_view free.now) rows.now) out.old.items out.new.items) }
 {
     push_line(out, b"+SOLUTION/ESTIMATE", &[])?;
     push_estimate_lines(out, datum, free, rows)?;
@@ -200,7 +204,7 @@ fn push_apriori_lines<const N: usize>(
     free: &Neq<N>,
 ) -> Result<(), AllocError>
     requires { IsSound (neq_view free.now) }
-    ensures { OnOk result (out.new.items ≡ out.old.items ++ text_of (spec.parameter_lines (option_map datum_view datum.now) 1 free.now.names free.now.units.items (map spec.apriori_numbers free.now.apriori.items))) }
+    ensures { OnOk result (Adds (spec.apriori_lines (option_map datum_view datum.now) (neq_view free.now)) out.old.items out.new.items) }
 {
     let deviation = deviation_field(0, 0);
     for k in 0..free.names.len() {
@@ -219,7 +223,7 @@ pub(crate) fn push_apriori<const N: usize>(
     free: &Neq<N>,
 ) -> Result<(), AllocError>
     requires { IsSound (neq_view free.now) }
-    ensures { OnOk result (out.new.items ≡ out.old.items ++ text_of (spec.apriori_block (option_map datum_view datum.now) (neq_view free.now))) }
+    ensures { OnOk result (Adds (spec.apriori_block (option_map datum_view datum.now) (neq_view free.now)) out.old.items out.new.items) }
 {
     push_line(out, b"+SOLUTION/APRIORI", &[])?;
     push_apriori_lines(out, datum, free)?;
@@ -260,7 +264,7 @@ fn push_vector_lines<const N: usize>(
     free: &Neq<N>,
 ) -> Result<(), AllocError>
     requires { IsSound (neq_view free.now) }
-    ensures { OnOk result (out.new.items ≡ out.old.items ++ text_of (spec.parameter_lines (option_map datum_view datum.now) 1 free.now.names free.now.units.items (map spec.vector_numbers (zip free.now.right.items free.now.scales.items)))) }
+    ensures { OnOk result (Adds (spec.vector_lines (option_map datum_view datum.now) (neq_view free.now)) out.old.items out.new.items) }
 {
     for k in 0..free.names.len() {
         let id = free.names.at(k);
@@ -280,7 +284,7 @@ pub(crate) fn push_vector<const N: usize>(
     free: &Neq<N>,
 ) -> Result<(), AllocError>
     requires { IsSound (neq_view free.now) }
-    ensures { OnOk result (out.new.items ≡ out.old.items ++ text_of (spec.vector_block (option_map datum_view datum.now) (neq_view free.now))) }
+    ensures { OnOk result (Adds (spec.vector_block (option_map datum_view datum.now) (neq_view free.now)) out.old.items out.new.items) }
 {
     push_line(out, b"+SOLUTION/NORMAL_EQUATION_VECTOR", &[])?;
     push_vector_lines(out, datum, free)?;

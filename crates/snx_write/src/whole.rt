@@ -52,7 +52,8 @@ pub fn combined<const N: usize>(
     requires sound { IsSound (neq_view free.now) }
     requires rows { length rows.now ≡ length free.now.names }
     requires small { All HasSmallDeviation rows.now }
-    ensures { IfOk result (λ text. text.items ≡ combined_text (control_view control.now) (map (λ file. file.now) files.now) (sites_view sites.now) (neq_view free.now) rows.now) }
+    ensures { IfOk result (λ text. text.items ≡ combined_text
+        (control_view control.now) (map (λ file. file.now) files.now) (sites_view sites.now) (neq_view free.now) rows.now) }
 {
     let count = free.names.len();
     let mut text = Vec::with_capacity(alloc, room_of(files, sites, count))?;

@@ -1,3 +1,4 @@
+pub mod Dominance
 pub mod Refusals
 pub mod Rules
 pub mod Stacks

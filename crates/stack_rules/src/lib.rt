@@ -1,5 +1,5 @@
-//! The rules from a stack of normal equations to its printed numbers: the working table, its pilot, the start vector, the
-//! certificate and the numbers of each row, and what these promise of every system in the stack.
+//! The rules from a stack of normal equations to its printed numbers: the working table, its enclosure and the numbers of each
+//! row, and what these promise of every system in the stack.
 #![tactic(auto)]
 
 use bounds_report::Printed;
@@ -8,7 +8,7 @@ use thiserror::Error;
 mod refusals;
 mod solving;
 
-pub use solving::certify;
+pub use solving::{certify, dominant_are_enclosed};
 
 /// The numbers of a report.
 #[derive(Drop)]

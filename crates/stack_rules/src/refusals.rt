@@ -1,13 +1,12 @@
 //! The refusals of the steps, as refusals of a stack.
 
 ghost use Rattle.std.specs.Prelude.{◌≡◌};
-ghost use Rattle.stack_rules.specs.Refusals.{of_working, of_pilot, of_vector, of_certificate, of_printing};
+ghost use Rattle.stack_rules.specs.Refusals.{of_working, of_enclosure, of_printing};
 ghost use Rattle.stack_rules.specs.declared.StackError.TheVariants.{Memory};
 
 use crate::StackError;
 use bounds_report::PrintError;
-use chol_guess::PilotError;
-use enclosure_check::{CheckError, VectorError};
+use enclosure_check::EncloseError;
 use equil::EquilError;
 use std::alloc::AllocError;
 
@@ -30,37 +29,17 @@ impl From<EquilError> for StackError {
     }
 }
 
-impl From<PilotError> for StackError {
-    ghost from_gives = { λ x r. r ≡ of_pilot x };
+impl From<EncloseError> for StackError {
+    ghost from_gives = { λ x r. r ≡ of_enclosure x };
 
-    fn from(refusal: PilotError) -> StackError {
+    fn from(refusal: EncloseError) -> StackError {
         match refusal {
-            PilotError::Pivot { row } => StackError::Pivot { row },
-            PilotError::Condition { col } => StackError::Condition { col },
-            PilotError::Memory => StackError::Memory,
-        }
-    }
-}
-
-impl From<VectorError> for StackError {
-    ghost from_gives = { λ x r. r ≡ of_vector x };
-
-    fn from(refusal: VectorError) -> StackError {
-        match refusal {
-            VectorError::Range { row } => StackError::Range { row, col: row },
-            VectorError::Memory => StackError::Memory,
-        }
-    }
-}
-
-impl From<CheckError> for StackError {
-    ghost from_gives = { λ x r. r ≡ of_certificate x };
-
-    fn from(refusal: CheckError) -> StackError {
-        match refusal {
-            CheckError::Residual { row, size } => StackError::Residual { row, size },
-            CheckError::Defect { row, parts } => StackError::Defect { row, parts },
-            CheckError::Memory => StackError::Memory,
+            EncloseError::Pivot { row } => StackError::Pivot { row },
+            EncloseError::Condition { col } => StackError::Condition { col },
+            EncloseError::Range { row } => StackError::Range { row, col: row },
+            EncloseError::Residual { row, size } => StackError::Residual { row, size },
+            EncloseError::Defect { row, parts } => StackError::Defect { row, parts },
+            EncloseError::Memory => StackError::Memory,
         }
     }
 }

@@ -14,8 +14,9 @@ loop-i-preserved g c =
     let fits : FitsSigned w128 c.midpoint_residual.result = search rules in
     let items = simp to_z-of_z at c.in_ok-push.ensures.items in
     let lefts = midpoint_residual a.size (table_of a c.args.d.now) (at c.args.y.now) in
+    let here : c.midpoint_residual.result ≡ lefts c.loop-i.i = rw c.in_ok-factors.ensures at c.midpoint_residual.ensures.value in
     record {
       len = omega (arith, c.in_ok-push.ensures.len, c.loop-i.invariant.len);
-      each = rw items (each_push (λ k v. v ≡ lefts k) c.loop-i.numbers.items c.loop-i.i c.midpoint_residual.result (pos 0) before c.loop-i.invariant.each c.midpoint_residual.ensures.value);
+      each = rw items (each_push (λ k v. v ≡ lefts k) c.loop-i.numbers.items c.loop-i.i c.midpoint_residual.result (pos 0) before c.loop-i.invariant.each here);
       small = rw items (each_push (λ k v. unsigned_abs v ≤ 2 ^ 126) c.loop-i.numbers.items c.loop-i.i c.midpoint_residual.result (pos 0) before c.loop-i.invariant.small c.midpoint_residual.ensures.bound);
     }

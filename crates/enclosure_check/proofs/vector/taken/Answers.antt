@@ -1,26 +1,17 @@
-use Rattle.std.proofs.Common.{arith, ◌+◌}
-use Rattle.std.proofs.lemmas.Int.{ints}
-use Rattle.enclosure_check.specs.VectorParts.{taken_midpoint}
-use Rattle.enclosure_check.proofs.VectorLaws.{row_small, sum_step}
+use Rattle.std.proofs.Common.{rules, length, arith, FitsSigned}
+use Rattle.std.specs.Int.{w128}
+use Rattle.std.proofs.lemmas.Int.{to_z-of_z}
+use Rattle.enclosure_check.proofs.VectorLaws.{row_small}
 use Rattle.enclosure_check.proofs.vector.taken.Goals as goal
 
-pub overflow_add-sum : goal.overflow_add-sum
-overflow_add-sum c =
-    let low = c.args.low.now in
-    let high = c.args.high.now in
-    let y = c.args.y.now in
-    let b = row_small low high y (c.loop-j.j + 1) c.requires (omega arith) in
-    let s = sum_step c.loop-j.j (taken_midpoint low high y) _ c.taken_midpoint-sum.result c.loop-j.invariant c.taken_midpoint-sum.ensures (omega (arith, b)) in
-    omega (arith, ints, s.0)
+pub returns-then-is_short-clause-bound : goal.returns-then-is_short-clause-bound
+returns-then-is_short-clause-bound c =
+    let fits : FitsSigned w128 c.short_taken.result = search rules in
+    let y = c.args.y.now.numbers.now in
+    rw (to_z-of_z w128 c.short_taken.result fits, c.short_taken.ensures) (row_small c.args.low.now c.args.high.now y (length y) c.requires (omega arith))
 
-pub loop-j-preserved : goal.loop-j-preserved
-loop-j-preserved c =
-    let low = c.args.low.now in
-    let high = c.args.high.now in
-    let y = c.args.y.now in
-    let b = row_small low high y (c.loop-j.j + 1) c.requires (omega arith) in
-    let s = sum_step c.loop-j.j (taken_midpoint low high y) _ c.taken_midpoint-sum.result c.loop-j.invariant c.taken_midpoint-sum.ensures (omega (arith, b)) in
-    omega (arith, ints, s.0, s.1)
-
-pub returns-clause-bound : goal.returns-clause-bound
-returns-clause-bound c = rw c.loop-j.invariant (row_small c.args.low.now c.args.high.now c.args.y.now c.loop-j.j c.requires (omega arith))
+pub returns-else-is_short-clause-bound : goal.returns-else-is_short-clause-bound
+returns-else-is_short-clause-bound c =
+    let fits : FitsSigned w128 c.wide_taken.result = search rules in
+    let y = c.args.y.now.numbers.now in
+    rw (to_z-of_z w128 c.wide_taken.result fits, c.wide_taken.ensures) (row_small c.args.low.now c.args.high.now y (length y) c.requires (omega arith))

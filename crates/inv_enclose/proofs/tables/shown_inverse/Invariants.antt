@@ -6,7 +6,7 @@ use Rattle.inv_enclose.proofs.tables.shown_inverse.Given as goal
 
 abbrev pub invariant-loop-c : goal.invariant-loop-c
 invariant-loop-c g l = record {
-  size : l.out.size ≡ l.w.a.size;
+  size : l.out.size ≡ l.rows.table.now.size;
   whole : length l.out.entries ≡ before l.out.size;
-  are : AreShown l.w.a.size l.w.a l.pilot l.v l.shift (exponent_of l.w.e.items) l.c l.out;
+  are : AreShown l.rows.table.now.size l.rows.table.now l.pilot l.v l.shift (exponent_of l.exponents) l.c l.out;
 }

@@ -1,12 +1,12 @@
-use Rattle.std.proofs.Common.{codes, map}
+use Rattle.std.proofs.Common.{codes}
 use Rattle.std.specs.Option.{option_map}
 use Rattle.control_doc.specs.Views.{datum_view}
-use Rattle.snx_write.specs.Combined.{parameter_lines, apriori_numbers}
+use Rattle.neq_stack.specs.Neqs.{neq_view}
+use Rattle.snx_write.specs.Combined.{apriori_lines}
 use Rattle.snx_write.proofs.Lines.{pushed_block}
 use Rattle.snx_write.proofs.parameters.push_apriori.Goals as goal
 
 pub returns : goal.returns
 returns g c =
-    let free = c.args.free.now in
-    pushed_block (codes "SOLUTION/APRIORI") (parameter_lines (option_map datum_view c.args.datum.now) 1 free.names free.units.items (map apriori_numbers free.apriori.items)) c.args.out.now.items _ _ _ _
+    pushed_block (codes "SOLUTION/APRIORI") (apriori_lines (option_map datum_view c.args.datum.now) (neq_view c.args.free.now)) c.args.out.now.items _ _ _ _
     c.in_ok-push_line.ensures c.in_ok-push_apriori_lines.ensures c.push_line-2.ensures

@@ -1,0 +1,13 @@
+pub mod Remainders
+pub mod Conditions
+pub mod Tails
+pub mod FactorBounds
+pub mod NoPivot
+pub mod ColumnBounds
+pub mod TableByPilot
+pub mod PilotByTable
+pub mod NarrowIntervals
+pub mod Refinements
+pub mod Errors
+pub mod DominantRows
+pub mod Never

@@ -1,0 +1,2 @@
+pub mod Dominant
+pub mod Refusals
